@@ -1,0 +1,5 @@
+pub mod PaddingLaws
+pub mod ScheduleLaws
+pub mod RoundLaws
+pub mod DigestLaws
+pub mod Vectors

@@ -90,8 +90,10 @@ word-bytes x =
   where
     two : (x : ℕ) → x / 2 ^ 8 % 256 * 2 ^ 8 + x % 256 ≡ x % 2 ^ 16
     two x = omega arith
+
     three : (x : ℕ) → x / 2 ^ 16 % 256 * 2 ^ 16 + x % 2 ^ 16 ≡ x % 2 ^ 24
     three x = omega arith
+
     four : (x : ℕ) → x / 2 ^ 24 % 256 * 2 ^ 24 + x % 2 ^ 24 ≡ x % 2 ^ 32
     four x = omega arith
 

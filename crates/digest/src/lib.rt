@@ -1,8 +1,9 @@
 // SHA-256 by FIPS 180-4. A function has the name of the definition in specs/Sha256.antt that it computes, where there is one.
 ghost use mathlib.Core.Path.{_≡_};
+ghost use mathlib.Core.List.{_++_};
 ghost use Prim.Native.Nat.{_+_, _*_, _/_, _≤_, _<_};
 ghost use lib.ListN.{length, getD, take};
-ghost use Rattle.digest.specs.Sha256.{ch, maj, Σ₀, Σ₁, σ₀, σ₁, word, zeros, pad, words, block, H0, _⊞_, schedule, round, rounds, plus, compress, output, sha256};
+ghost use Rattle.digest.specs.Sha256.{ch, maj, Σ₀, Σ₁, σ₀, σ₁, word, bytesOf, zeros, pad, words, block, H0, _⊞_, schedule, round, rounds, plus, compress, output, sha256};
 
 mod constants;
 
@@ -247,44 +248,31 @@ fn compress(v: Words, b: [u32; 16]) -> Words
     plus(v, rounds(v, &K, &w))
 }
 
-// 6.2: the value's bytes.
+// The four bytes of a word, the highest first, at the byte i of a digest that is filled up to there.
+fn put(out: [u8; 32], i: usize, x: u32) -> [u8; 32]
+    requires { ⌜ i + 4 ≤ 32 ⌝ }
+    ensures { λ r. ⌜ take (i + 4) r ≡ take i out ++ bytesOf x ⌝ }
+{
+    let mut r = out;
+    r[i] = (x / 16777216 % 256) as u8;
+    r[i + 1] = (x / 65536 % 256) as u8;
+    r[i + 2] = (x / 256 % 256) as u8;
+    r[i + 3] = (x % 256) as u8;
+    r
+}
+
+// 6.2.2: the digest, the eight words' bytes.
 fn output(v: Words) -> [u8; 32]
     ensures { λ r. ⌜ r ≡ output v ⌝ }
 {
-    [
-        (v.a / 16777216 % 256) as u8,
-        (v.a / 65536 % 256) as u8,
-        (v.a / 256 % 256) as u8,
-        (v.a % 256) as u8,
-        (v.b / 16777216 % 256) as u8,
-        (v.b / 65536 % 256) as u8,
-        (v.b / 256 % 256) as u8,
-        (v.b % 256) as u8,
-        (v.c / 16777216 % 256) as u8,
-        (v.c / 65536 % 256) as u8,
-        (v.c / 256 % 256) as u8,
-        (v.c % 256) as u8,
-        (v.d / 16777216 % 256) as u8,
-        (v.d / 65536 % 256) as u8,
-        (v.d / 256 % 256) as u8,
-        (v.d % 256) as u8,
-        (v.e / 16777216 % 256) as u8,
-        (v.e / 65536 % 256) as u8,
-        (v.e / 256 % 256) as u8,
-        (v.e % 256) as u8,
-        (v.f / 16777216 % 256) as u8,
-        (v.f / 65536 % 256) as u8,
-        (v.f / 256 % 256) as u8,
-        (v.f % 256) as u8,
-        (v.g / 16777216 % 256) as u8,
-        (v.g / 65536 % 256) as u8,
-        (v.g / 256 % 256) as u8,
-        (v.g % 256) as u8,
-        (v.h / 16777216 % 256) as u8,
-        (v.h / 65536 % 256) as u8,
-        (v.h / 256 % 256) as u8,
-        (v.h % 256) as u8,
-    ]
+    let r0 = put([0u8; 32], 0, v.a);
+    let r1 = put(r0, 4, v.b);
+    let r2 = put(r1, 8, v.c);
+    let r3 = put(r2, 12, v.d);
+    let r4 = put(r3, 16, v.e);
+    let r5 = put(r4, 20, v.f);
+    let r6 = put(r5, 24, v.g);
+    put(r6, 28, v.h)
 }
 
 // The SHA-256 digest of a message of any length.

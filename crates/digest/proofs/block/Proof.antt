@@ -45,9 +45,12 @@ loop-again : tie.Need-loop-again Inv-loop μ-loop
 loop-again c =
     let a = c .before .before .before .before .args in
     let p = c .before .before .loop in
-    let h : p .j < 16 = c .before .loop-test .taken in
-    (omega arith, search needs, take-more (block (words (pad (now (a .m)))) (a .i)) (p .b) (p .j) (omega (arith, block-long (now (a .m)) (a .i) (c .before .before .before .before .pre))) (omega arith)
-    (c .word-at .ensures ∙ sym (block-at (now (a .m)) (a .i) (c .before .before .before .before .pre) (p .j) h)) (p .inv .2))
+    let h : p .j < 16 = c .before .loop-test .taken in (
+      omega arith,
+      search needs,
+      take-more (block (words (pad (now (a .m)))) (a .i)) (p .b) (p .j) (omega (arith, block-long (now (a .m)) (a .i) (c .before .before .before .before .pre))) (omega arith)
+          (c .word-at .ensures ∙ sym (block-at (now (a .m)) (a .i) (c .before .before .before .before .pre) (p .j) h)) (p .inv .2),
+    )
 
 returns : tie.Need-returns Inv-loop μ-loop
 returns c =

@@ -1,0 +1,29 @@
+-- What is proved of the contract of every public function: it asks nothing of its caller, and it fixes the result and every lent byte.
+use mathlib.Core.Path.{_≡_, sym, _∙_}
+
+module _ {K : Type 0} {A R L : K → Type 0} (Pre : (κs : K) → A κs → Type 0) (Post : (κs : K) → A κs → R κs → L κs → Type 0) where
+  -- at all arguments what is required holds
+  abbrev pub Total : Type 0
+  Total = (κs : K) (a : A κs) → Pre κs a
+
+  -- any two results that are allowed at the same arguments are equal
+  pub record Fixed : Type 0 where
+    pub total : Total
+    pub one : (κs : K) (a : A κs) (x y : R κs) (l m : L κs) → Post κs a x l → Post κs a y m → x ≡ y
+
+  -- the same of the result and of the lent bytes, which `lent` reads off the parameters at exit
+  pub record FixedLent {B : Type 0} (lent : (κs : K) → L κs → B) : Type 0 where
+    pub total : Total
+    pub both : (κs : K) (a : A κs) (x y : R κs) (l m : L κs) → Post κs a x l → Post κs a y m → (x ≡ y) × (lent κs l ≡ lent κs m)
+
+  -- the same of what a returned reference holds, which `seen` reads off it
+  pub record FixedSeen {B : Type 0} (seen : (κs : K) → R κs → B) : Type 0 where
+    pub total : Total
+    pub one : (κs : K) (a : A κs) (x y : R κs) (l m : L κs) → Post κs a x l → Post κs a y m → seen κs x ≡ seen κs y
+
+-- what equals one thing is equal
+pub one : {A : Type 0} {x y z : A} → x ≡ z → y ≡ z → x ≡ y
+one p q = p ∙ sym q
+
+pub both : {A B : Type 0} {x y z : A} {u v w : B} → (x ≡ z) × (u ≡ w) → (y ≡ z) × (v ≡ w) → (x ≡ y) × (u ≡ v)
+both p q = (one (p .0) (q .0), one (p .1) (q .1))

@@ -1,0 +1,4 @@
+-- A file for each crate, a theorem for each of its public functions.
+pub mod Fixed
+pub mod Digest
+pub mod Wire

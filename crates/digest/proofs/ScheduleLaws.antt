@@ -1,12 +1,12 @@
 -- Lists that a loop fills from the front: the words of a block, and the schedule.
-use mathlib.Core.Path.{_≡_, refl, sym, ap, ap₂, _∙_}
+use mathlib.Core.Path.{_≡_, sym, ap, ap₂, _∙_}
 use mathlib.Core.List.{List, [], _∷_, _++_}
-use Prim.Native.Nat.{ℕ, zero, suc, _+_, _-_, _*_, _/_, _≤_, _<_}
+use Prim.Native.Nat.{ℕ, suc, _+_, _-_, _*_, _/_, _≤_, _<_}
 use native.Mathlib.Numerals.{add-one}
 use native.Mathlib.Omega.{arith}
 use lib.ListN.{length, getD, take, drop, set, length-drop}
 use lib.Seq.{take-suc, take-suc-set, take-all, getD-take, getD-drop, length-take-le}
-use Rattle.digest.specs.Sha256.{_⊞_, σ₀, σ₁, pad, words, block, next, withNext, scheduleTo, schedule}
+use Rattle.digest.specs.Sha256.{pad, words, block, next, withNext, scheduleTo, schedule}
 use Rattle.digest.proofs.PaddingLaws.{length-pad, length-words}
 
 -- b agrees with l on the first i elements, and then on one more

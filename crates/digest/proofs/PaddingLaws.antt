@@ -1,11 +1,11 @@
--- What stands at each byte and at each word of a padded message.
+-- What stands at each byte, at each word and in each block of a padded message.
 use mathlib.Core.Path.{_≡_, refl, sym, ap, _∙_, subst}
 use mathlib.Core.List.{List, [], _∷_, _++_}
 use Prim.Native.Nat.{ℕ, zero, suc, _+_, _-_, _*_, _/_, _%_, _^_, _≤_, _<_}
 use native.Mathlib.Omega.{arith}
-use lib.ListN.{length, getD, replicate, length-append, length-replicate, getD-replicate, List·getD-append}
-use lib.Seq.{getD-append-seam, getD-append-add}
-use Rattle.digest.specs.Sha256.{word, zeros, count, pad, words}
+use lib.ListN.{length, getD, drop, replicate, length-append, length-drop, length-replicate, getD-replicate, List·getD-append}
+use lib.Seq.{getD-append-seam, getD-append-add, getD-take, getD-drop, length-take-le}
+use Rattle.digest.specs.Sha256.{word, zeros, count, pad, words, block}
 
 -- the zeros are the least number that the standard's equation allows
 pub zeros-fit : (n : ℕ) → (n + 1 + zeros n) % 64 ≡ 56
@@ -141,3 +141,13 @@ module _ (m : List ℕ) (j : ℕ) (h : j < 16 * ((length m + 8) / 64 + 1)) where
       let q : length m % 2 ^ 29 * 8 ≡ 8 * length m % 2 ^ 32 = omega arith in
       word-law (at (4 * j) 4 (omega arith)) (at (4 * j + 1) 5 (omega arith)) (at (4 * j + 2) 6 (omega arith)) (at (4 * j + 3) 7 (omega arith))
       (q ∙ sym (word-bytes (8 * length m)))
+
+-- ---- the blocks of a padded message
+module _ (m : List ℕ) (i : ℕ) (h : i < (length m + 8) / 64 + 1) where
+  pub block-long : length (block (words (pad m)) i) ≡ 16
+  block-long =
+      let ws = words (pad m) in
+      length-take-le 16 (drop (16 * i) ws) (omega (arith, length-drop (16 * i) ws, length-words (pad m), length-pad m))
+
+  pub block-at : (j : ℕ) → j < 16 → getD (block (words (pad m)) i) j 0 ≡ getD (words (pad m)) (16 * i + j) 0
+  block-at j l = getD-take 16 (drop (16 * i) (words (pad m))) j 0 l ∙ getD-drop (16 * i) (words (pad m)) j 0

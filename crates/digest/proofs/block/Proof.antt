@@ -7,7 +7,8 @@ use Prim.Native.Nat.{_≤_, _<_, _-_}
 use lib.ListN.{length, take}
 use lib.Seq.{take-all}
 use Rattle.digest.specs.Sha256.{pad, words, block}
-use Rattle.digest.proofs.ScheduleLaws.{take-more, take-done, block-long, block-at}
+use Rattle.digest.proofs.FillLaws.{take-more, take-done}
+use Rattle.digest.proofs.PaddingLaws.{block-long, block-at}
 use Rattle.digest.proofs.block.Statement.{statement}
 use Rattle.digest.proofs.block.Tie as tie
 

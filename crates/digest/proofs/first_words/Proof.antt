@@ -4,7 +4,7 @@ use borrow.Author.Needs.{needs}
 use mathlib.Core.Path.{_≡_, refl}
 use Prim.Native.Nat.{_≤_, _-_}
 use lib.ListN.{length, take}
-use Rattle.digest.proofs.ScheduleLaws.{take-more, take-done}
+use Rattle.digest.proofs.FillLaws.{take-more, take-done}
 use Rattle.digest.proofs.first_words.Statement.{statement}
 use Rattle.digest.proofs.first_words.Tie as tie
 

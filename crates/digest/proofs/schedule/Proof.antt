@@ -77,7 +77,8 @@ loop-again : tie.Need-loop-again Inv-loop μ-loop
 unfolding next
 loop-again c =
     let p = c .before .before .loop in
-    (omega arith, omega arith, search needs, schedule-more (p .w) (take 16 (c .before .before .before .first-words .result)) (p .t) (omega arith) (omega arith) (c .next .ensures) (p .inv .3))
+    let b = take 16 (c .before .before .before .first-words .result) in
+    (omega arith, omega arith, search needs, schedule-more (p .w) b (p .t) (omega arith) (omega arith) (c .next .ensures) (p .inv .3))
 
 returns : tie.Need-returns Inv-loop μ-loop
 returns c =

@@ -1,5 +1,5 @@
 -- From one block to the digest: the value after one more block, and after all.
-use mathlib.Core.Path.{_≡_, sym, ap, _∙_}
+use mathlib.Core.Path.{_≡_, ap, _∙_}
 use mathlib.Core.List.{List}
 use Prim.Native.Nat.{ℕ, suc, _+_, _/_}
 use native.Mathlib.Numerals.{add-one}

@@ -1,3 +1,4 @@
+pub mod FillLaws
 pub mod PaddingLaws
 pub mod ScheduleLaws
 pub mod RoundLaws

@@ -1,15 +1,12 @@
 -- The digest's bytes, put down a word at a time.
-use mathlib.Core.Path.{_≡_, refl, sym, ap, _∙_}
+use mathlib.Core.Path.{_≡_, ap, _∙_}
 use mathlib.Core.List.{List, [], _∷_, _++_, append-assoc}
-use Prim.Native.Nat.{ℕ, suc, _+_, _≤_, _<_}
+use Prim.Native.Nat.{ℕ, _+_, _≤_}
 use native.Mathlib.Omega.{arith}
 use lib.ListN.{length, take, set, length-set}
-use lib.Seq.{take-suc-set}
 use Rattle.digest.specs.declared.Words.{Words}
 use Rattle.digest.specs.Sha256.{bytesOf, output}
-
-take-set : (l : List ℕ) (i n x : ℕ) → n ≡ suc i → i < length l → take n (set l i x) ≡ take i l ++ (x ∷ [])
-take-set l i n x e h = ap (λ (k : ℕ). take k (set l i x)) e ∙ take-suc-set l i x h
+use Rattle.digest.proofs.FillLaws.{take-set}
 
 module _ (l : List ℕ) (i a b c d : ℕ) where
   pub put-law : i + 4 ≤ length l → take (i + 4) (set (set (set (set l i a) (i + 1) b) (i + 2) c) (i + 3) d) ≡ take i l ++ (a ∷ b ∷ c ∷ d ∷ [])

@@ -1,11 +1,18 @@
--- What stands at each byte and at each word of a padded message.
+-- What stands at each byte, at each word and in each block of a padded message.
 use mathlib.Core.Path.{_≡_, refl, sym, ap, _∙_, subst}
 use mathlib.Core.List.{List, [], _∷_, _++_}
 use Prim.Native.Nat.{ℕ, zero, suc, _+_, _-_, _*_, _/_, _%_, _^_, _≤_, _<_}
 use native.Mathlib.Omega.{arith}
-use lib.ListN.{length, getD, replicate, length-append, length-replicate, getD-replicate, List·getD-append}
-use lib.Seq.{getD-append-seam, getD-append-add}
-use Rattle.digest.specs.Sha256.{word, bytesOf, zeros, count, pad, words}
+use lib.ListN.{length, getD, drop, replicate, length-append, length-drop, length-replicate, getD-replicate, List·getD-append}
+use lib.Seq.{getD-append-seam, getD-append-add, getD-take, getD-drop, length-take-le}
+use Rattle.digest.specs.Sha256.{word, zeros, count, pad, words, block}
+
+-- the zeros are the least number that the standard's equation allows
+pub zeros-fit : (n : ℕ) → (n + 1 + zeros n) % 64 ≡ 56
+zeros-fit n = omega arith
+
+pub zeros-least : (n z : ℕ) → (n + 1 + z) % 64 ≡ 56 → zeros n ≤ z
+zeros-least n z e = omega arith
 
 -- the byte at which the count of bits begins, for a message of n bytes
 abbrev pub end : ℕ → ℕ
@@ -62,10 +69,14 @@ length-words (a ∷ b ∷ []) = refl
 length-words (a ∷ []) = refl
 length-words [] = refl
 
+-- the word at the byte i of a list
+abbrev pub wordFrom : List ℕ → ℕ → ℕ
+wordFrom l i = word (getD l i 0) (getD l (i + 1) 0) (getD l (i + 2) 0) (getD l (i + 3) 0)
+
 past-four : (a b c d : ℕ) (l : List ℕ) (i j : ℕ) → i ≡ 4 + j → getD (a ∷ b ∷ c ∷ d ∷ l) i 0 ≡ getD l j 0
 past-four a b c d l i j e = ap (λ (k : ℕ). getD (a ∷ b ∷ c ∷ d ∷ l) k 0) e ∙ getD-append-add (a ∷ b ∷ c ∷ d ∷ []) l j 0
 
-words-at : (l : List ℕ) (j : ℕ) → 4 * j + 3 < length l → getD (words l) j 0 ≡ word (getD l (4 * j) 0) (getD l (4 * j + 1) 0) (getD l (4 * j + 2) 0) (getD l (4 * j + 3) 0)
+words-at : (l : List ℕ) (j : ℕ) → 4 * j + 3 < length l → getD (words l) j 0 ≡ wordFrom l (4 * j)
 unfolding words
 words-at (a ∷ b ∷ c ∷ d ∷ l) zero h = refl
 words-at (a ∷ b ∷ c ∷ d ∷ l) (suc j) h =
@@ -99,27 +110,44 @@ word-bytes x =
 
 -- ---- the words of a padded message
 module _ (m : List ℕ) (j : ℕ) (h : j < 16 * ((length m + 8) / 64 + 1)) where
-  at-word : getD (words (pad m)) j 0 ≡ word (getD (pad m) (4 * j) 0) (getD (pad m) (4 * j + 1) 0) (getD (pad m) (4 * j + 2) 0) (getD (pad m) (4 * j + 3) 0)
+  at-word : getD (words (pad m)) j 0 ≡ wordFrom (pad m) (4 * j)
   at-word = words-at (pad m) j (omega (arith, length-pad m))
 
   module _ {a b c d r : ℕ} where
-    pub word-law : a ≡ getD (pad m) (4 * j) 0 → b ≡ getD (pad m) (4 * j + 1) 0 → c ≡ getD (pad m) (4 * j + 2) 0 → d ≡ getD (pad m) (4 * j + 3) 0 → r ≡ word a b c d → r ≡ getD (words (pad m)) j 0
+    pub word-law : a ≡ getD (pad m) (4 * j) 0 → b ≡ getD (pad m) (4 * j + 1) 0 → c ≡ getD (pad m) (4 * j + 2) 0 → d ≡ getD (pad m) (4 * j + 3) 0
+        → r ≡ word a b c d → r ≡ getD (words (pad m)) j 0
     word-law e₀ e₁ e₂ e₃ e = let w = at-word in cc
 
-  pub word-in : {r : ℕ} → 4 * j + 3 < length m → r ≡ word (getD m (4 * j) 0) (getD m (4 * j + 1) 0) (getD m (4 * j + 2) 0) (getD m (4 * j + 3) 0) → r ≡ getD (words (pad m)) j 0
-  word-in l e = word-law (pad-in m (4 * j) (omega arith)) (pad-in m (4 * j + 1) (omega arith)) (pad-in m (4 * j + 2) (omega arith)) (pad-in m (4 * j + 3) (omega arith)) e
+  pub word-in : {r : ℕ} → 4 * j + 3 < length m → r ≡ wordFrom m (4 * j) → r ≡ getD (words (pad m)) j 0
+  word-in l e =
+      let at = pad-in m in
+      word-law (at (4 * j) (omega arith)) (at (4 * j + 1) (omega arith)) (at (4 * j + 2) (omega arith)) (at (4 * j + 3) l) e
 
   pub word-zero : length m < 4 * j → 4 * j < end (length m) → 0 ≡ getD (words (pad m)) j 0
-  word-zero l u = word-law (pad-zero m (4 * j) l u) (pad-zero m (4 * j + 1) (omega arith) (omega arith)) (pad-zero m (4 * j + 2) (omega arith) (omega arith)) (pad-zero m (4 * j + 3) (omega arith) (omega arith)) refl
+  word-zero l u =
+      let at = pad-zero m in
+      word-law (at (4 * j) l u) (at (4 * j + 1) (omega arith) (omega arith)) (at (4 * j + 2) (omega arith) (omega arith)) (at (4 * j + 3) (omega arith) (omega arith)) refl
 
-  pub word-high : 4 * j ≡ end (length m) → length m / 536870912 % 4294967296 ≡ getD (words (pad m)) j 0
+  pub word-high : 4 * j ≡ end (length m) → length m / 2 ^ 29 % 2 ^ 32 ≡ getD (words (pad m)) j 0
   word-high e =
-      let q : length m / 536870912 ≡ 8 * length m / 2 ^ 32 = omega arith in
-      word-law (pad-count m (4 * j) 0 (omega arith)) (pad-count m (4 * j + 1) 1 (omega arith)) (pad-count m (4 * j + 2) 2 (omega arith)) (pad-count m (4 * j + 3) 3 (omega arith))
+      let at = pad-count m in
+      let q : length m / 2 ^ 29 ≡ 8 * length m / 2 ^ 32 = omega arith in
+      word-law (at (4 * j) 0 (omega arith)) (at (4 * j + 1) 1 (omega arith)) (at (4 * j + 2) 2 (omega arith)) (at (4 * j + 3) 3 (omega arith))
       (ap (λ (x : ℕ). x % 2 ^ 32) q ∙ sym (word-bytes (8 * length m / 2 ^ 32)))
 
-  pub word-low : end (length m) < 4 * j → length m % 536870912 * 8 ≡ getD (words (pad m)) j 0
+  pub word-low : end (length m) < 4 * j → length m % 2 ^ 29 * 8 ≡ getD (words (pad m)) j 0
   word-low l =
-      let q : length m % 536870912 * 8 ≡ 8 * length m % 2 ^ 32 = omega arith in
-      word-law (pad-count m (4 * j) 4 (omega arith)) (pad-count m (4 * j + 1) 5 (omega arith)) (pad-count m (4 * j + 2) 6 (omega arith)) (pad-count m (4 * j + 3) 7 (omega arith))
+      let at = pad-count m in
+      let q : length m % 2 ^ 29 * 8 ≡ 8 * length m % 2 ^ 32 = omega arith in
+      word-law (at (4 * j) 4 (omega arith)) (at (4 * j + 1) 5 (omega arith)) (at (4 * j + 2) 6 (omega arith)) (at (4 * j + 3) 7 (omega arith))
       (q ∙ sym (word-bytes (8 * length m)))
+
+-- ---- the blocks of a padded message
+module _ (m : List ℕ) (i : ℕ) (h : i < (length m + 8) / 64 + 1) where
+  pub block-long : length (block (words (pad m)) i) ≡ 16
+  block-long =
+      let ws = words (pad m) in
+      length-take-le 16 (drop (16 * i) ws) (omega (arith, length-drop (16 * i) ws, length-words (pad m), length-pad m))
+
+  pub block-at : (j : ℕ) → j < 16 → getD (block (words (pad m)) i) j 0 ≡ getD (words (pad m)) (16 * i + j) 0
+  block-at j l = getD-take 16 (drop (16 * i) (words (pad m))) j 0 l ∙ getD-drop (16 * i) (words (pad m)) j 0

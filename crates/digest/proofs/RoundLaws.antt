@@ -1,13 +1,14 @@
 -- The rounds in parts: one more round, and eight more.
 use mathlib.Core.Path.{_≡_, refl, sym, ap, ap₂, _∙_}
 use mathlib.Core.List.{List, [], _∷_, _++_}
-use Prim.Native.Nat.{ℕ, zero, suc, _+_, _-_, _≤_, _<_}
+use Prim.Native.Nat.{ℕ, suc, _+_, _-_, _≤_, _<_}
 use native.Mathlib.Omega.{arith}
 use lib.ListN.{length, getD, take, drop, length-drop, take-append-drop, drop-of-length-le}
 use lib.Seq.{drop-cons, drop-drop, length-take-le}
 use Rattle.digest.specs.declared.Words.{Words}
 use Rattle.digest.specs.Sha256.{round, rounds}
 
+-- rounds over two lists each, one behind the other
 rounds-append : (k k′ w w′ : List ℕ) (s : Words) → length k ≡ length w → rounds (k ++ k′) (w ++ w′) s ≡ rounds k′ w′ (rounds k w s)
 unfolding rounds
 rounds-append (a ∷ k) k′ (b ∷ w) w′ s h = rounds-append k k′ w w′ (round s a b) (omega arith)
@@ -15,6 +16,7 @@ rounds-append (a ∷ k) k′ [] w′ s h = absurd (omega arith)
 rounds-append [] k′ (b ∷ w) w′ s h = absurd (omega arith)
 rounds-append [] k′ [] w′ s h = refl
 
+-- the rounds from t on are the round t and those behind it
 module _ (k w : List ℕ) (t : ℕ) (s : Words) where
   round-more : t < length k → t < length w → rounds (drop t k) (drop t w) s ≡ rounds (drop (suc t) k) (drop (suc t) w) (round s (getD k t 0) (getD w t 0))
   unfolding rounds
@@ -23,8 +25,10 @@ module _ (k w : List ℕ) (t : ℕ) (s : Words) where
 -- eight rounds, one after the other
 module _ (k w : List ℕ) (s : Words) {s₀ s₁ s₂ s₃ s₄ s₅ s₆ s₇ : Words} where
   pub eight-law : length k ≡ 8 → length w ≡ 8
-      → s₀ ≡ round s (getD k 0 0) (getD w 0 0) → s₁ ≡ round s₀ (getD k 1 0) (getD w 1 0) → s₂ ≡ round s₁ (getD k 2 0) (getD w 2 0) → s₃ ≡ round s₂ (getD k 3 0) (getD w 3 0)
-      → s₄ ≡ round s₃ (getD k 4 0) (getD w 4 0) → s₅ ≡ round s₄ (getD k 5 0) (getD w 5 0) → s₆ ≡ round s₅ (getD k 6 0) (getD w 6 0) → s₇ ≡ round s₆ (getD k 7 0) (getD w 7 0)
+      → s₀ ≡ round s (getD k 0 0) (getD w 0 0) → s₁ ≡ round s₀ (getD k 1 0) (getD w 1 0)
+      → s₂ ≡ round s₁ (getD k 2 0) (getD w 2 0) → s₃ ≡ round s₂ (getD k 3 0) (getD w 3 0)
+      → s₄ ≡ round s₃ (getD k 4 0) (getD w 4 0) → s₅ ≡ round s₄ (getD k 5 0) (getD w 5 0)
+      → s₆ ≡ round s₅ (getD k 6 0) (getD w 6 0) → s₇ ≡ round s₆ (getD k 7 0) (getD w 7 0)
       → s₇ ≡ rounds k w s
   unfolding rounds
   eight-law hk hw e₀ e₁ e₂ e₃ e₄ e₅ e₆ e₇ =

@@ -59,7 +59,7 @@ fn small_sigma1(x: u32) -> u32
     (x >> 17 | x << 15) ^ (x >> 19 | x << 13) ^ (x >> 10)
 }
 
-// 5.1.1: the byte i of the padded message, up to its count of bits.
+// 5.1.1: the byte i of the padded message, before its count of bits.
 fn byte_at(m: &[u8], i: usize) -> u8
     requires { ⌜ i < length (now m) + 1 + zeros (length (now m)) ⌝ }
     ensures { λ r. ⌜ r ≡ getD (pad (now (m .entry))) i 0 ⌝ }
@@ -78,10 +78,11 @@ fn byte_at(m: &[u8], i: usize) -> u8
 fn word(a: u8, b: u8, c: u8, d: u8) -> u32
     ensures { λ r. ⌜ r ≡ word a b c d ⌝ }
 {
-    (a as u32) * 16777216 + (b as u32) * 65536 + (c as u32) * 256 + (d as u32)
+    (a as u32) * 0x1000000 + (b as u32) * 0x10000 + (c as u32) * 0x100 + (d as u32)
 }
 
-// 5.2.1: the word j of the padded message. Only the word with the byte 0x80 is put together byte by byte.
+// 5.2.1: the word j of the padded message, which has (n + 8) / 64 + 1 blocks. Only the word with the byte 0x80 is put together
+// from single bytes.
 fn word_at(m: &[u8], j: usize) -> u32
     requires { ⌜ j < 16 * ((length (now m) + 8) / 64 + 1) ⌝ }
     ensures { λ r. ⌜ r ≡ getD (words (pad (now (m .entry)))) j 0 ⌝ }
@@ -103,10 +104,11 @@ fn word_at(m: &[u8], j: usize) -> u32
     if i < end {
         return 0;
     }
+    // the count of bits in two words: as a whole, 8 * n could wrap
     if i == end {
-        return (n / 536870912 % 4294967296) as u32;
+        return (n / 0x20000000 % 0x100000000) as u32;
     }
-    (n % 536870912 * 8) as u32
+    (n % 0x20000000 * 8) as u32
 }
 
 // 5.2.1: the sixteen words of the block i of the padded message.
@@ -123,7 +125,7 @@ fn block(m: &[u8], i: usize) -> [u32; 16]
     b
 }
 
-// 5.3.3
+// 5.3.3: the value to start from.
 fn start() -> Words
     ensures { λ r. ⌜ r ≡ H0 ⌝ }
 {
@@ -139,7 +141,8 @@ fn start() -> Words
     }
 }
 
-// 6.2.2 step 1: a word of the schedule, from those 16, 15, 7 and 2 places before it.
+// 6.2.2 step 1: a word of the schedule, from those 16, 15, 7 and 2 places before it. Read in this order they compile to faster
+// code than in the order of the sum.
 fn next(w16: u32, w15: u32, w7: u32, w2: u32) -> u32
     ensures { λ r. ⌜ r ≡ σ₁ w2 ⊞ w7 ⊞ σ₀ w15 ⊞ w16 ⌝ }
 {
@@ -224,7 +227,7 @@ fn rounds(v: Words, k: &[u32], w: &[u32]) -> Words
     s
 }
 
-// 6.2.2 step 4.
+// 6.2.2 step 4: the sums, word by word.
 fn plus(v: Words, s: Words) -> Words
     ensures { λ r. ⌜ r ≡ plus v s ⌝ }
 {
@@ -254,10 +257,10 @@ fn put(out: [u8; 32], i: usize, x: u32) -> [u8; 32]
     ensures { λ r. ⌜ take (i + 4) r ≡ take i out ++ bytesOf x ⌝ }
 {
     let mut r = out;
-    r[i] = (x / 16777216 % 256) as u8;
-    r[i + 1] = (x / 65536 % 256) as u8;
-    r[i + 2] = (x / 256 % 256) as u8;
-    r[i + 3] = (x % 256) as u8;
+    r[i] = (x / 0x1000000 % 0x100) as u8;
+    r[i + 1] = (x / 0x10000 % 0x100) as u8;
+    r[i + 2] = (x / 0x100 % 0x100) as u8;
+    r[i + 3] = (x % 0x100) as u8;
     r
 }
 

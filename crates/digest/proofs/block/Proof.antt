@@ -2,12 +2,13 @@
 use native.Mathlib.Omega.{arith}
 use borrow.Author.Needs.{needs}
 use denote.Ref.{now}
-use mathlib.Core.Path.{_≡_, ap, sym, refl, _∙_}
-use Prim.Native.Nat.{ℕ, _≤_, _<_, _-_, _+_, _*_}
-use lib.ListN.{length, take, length-set}
+use mathlib.Core.Path.{_≡_, sym, _∙_}
+use Prim.Native.Nat.{_≤_, _<_, _-_}
+use lib.ListN.{length, take}
 use lib.Seq.{take-all}
 use Rattle.digest.specs.Sha256.{pad, words, block}
-use Rattle.digest.proofs.ScheduleLaws.{take-more, take-done, block-long, block-at}
+use Rattle.digest.proofs.FillLaws.{take-more, take-done}
+use Rattle.digest.proofs.PaddingLaws.{block-long, block-at}
 use Rattle.digest.proofs.block.Statement.{statement}
 use Rattle.digest.proofs.block.Tie as tie
 
@@ -43,20 +44,24 @@ loop-less c = search needs
 
 loop-again : tie.Need-loop-again Inv-loop μ-loop
 loop-again c =
-    let a = c .before .before .before .before .args in
+    let a = c .before .before .before .before in
+    let m = now (a .args .m) in
+    let i = a .args .i in
     let p = c .before .before .loop in
     let h : p .j < 16 = c .before .loop-test .taken in (
       omega arith,
       search needs,
-      take-more (block (words (pad (now (a .m)))) (a .i)) (p .b) (p .j) (omega (arith, block-long (now (a .m)) (a .i) (c .before .before .before .before .pre))) (omega arith)
-          (c .word-at .ensures ∙ sym (block-at (now (a .m)) (a .i) (c .before .before .before .before .pre) (p .j) h)) (p .inv .2),
+      take-more (block (words (pad m)) i) (p .b) (p .j) (omega (arith, block-long m i (a .pre))) (omega arith)
+          (c .word-at .ensures ∙ sym (block-at m i (a .pre) (p .j) h)) (p .inv .2),
     )
 
 returns : tie.Need-returns Inv-loop μ-loop
 returns c =
-    let a = c .before .before .before .args in
+    let a = c .before .before .before in
+    let m = now (a .args .m) in
+    let i = a .args .i in
     let p = c .before .loop in
-    sym (take-all 16 (p .b) (omega arith)) ∙ take-done (block (words (pad (now (a .m)))) (a .i)) (p .b) (p .j) 16 (omega arith) (block-long (now (a .m)) (a .i) (c .before .before .before .pre)) (p .inv .2)
+    sym (take-all 16 (p .b) (omega arith)) ∙ take-done (block (words (pad m)) i) (p .b) (p .j) 16 (omega arith) (block-long m i (a .pre)) (p .inv .2)
 
 pub block-spec : {M : Type 1} → statement M
 block-spec =

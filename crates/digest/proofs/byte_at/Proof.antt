@@ -11,15 +11,19 @@ shared-slice-read-result : tie.Need-shared-slice-read-result
 shared-slice-read-result c = search needs
 
 returns : tie.Need-returns
-returns c = pad-in (now (c .before .before .args .m)) (c .before .before .args .i) (c .before .if1 .taken)
+returns c =
+    let a = c .before .before .args in
+    pad-in (now (a .m)) (a .i) (c .before .if1 .taken)
 
 returns-2 : tie.Need-returns-2
-returns-2 c = pad-one (now (c .before .before .args .m)) (c .before .before .args .i) (c .if2 .taken)
+returns-2 c =
+    let a = c .before .before .args in
+    pad-one (now (a .m)) (a .i) (c .if2 .taken)
 
 returns-3 : tie.Need-returns-3
 returns-3 c =
-    let m = now (c .before .before .args .m) in
-    pad-zero m (c .before .before .args .i) (omega arith) (omega (arith, end-is (length m)))
+    let a = c .before .before .args in
+    pad-zero (now (a .m)) (a .i) (omega arith) (omega (arith, end-is (length (now (a .m)))))
 
 pub byte-at-spec : {M : Type 1} → statement M
 byte-at-spec = tie.close (tie.spec shared-slice-read-result returns returns-2 returns-3)

@@ -22,7 +22,10 @@ plus-requires c κs = search needs
 
 returns : tie.Need-returns
 unfolding K
-returns c = compress-law (c .before .before .before .before .before .args .v) (c .before .before .before .before .before .args .b) (c .before .before .before .before .schedule .ensures) (c .before .rounds .ensures) (c .plus .ensures)
+returns c =
+    let b = c .before .before .before .before in
+    let a = b .before .args in
+    compress-law (a .v) (a .b) (b .schedule .ensures) (c .before .rounds .ensures) (c .plus .ensures)
 
 pub compress-spec : {M : Type 1} → statement M
 compress-spec =

@@ -1,11 +1,10 @@
 -- The loop's invariant: the first t words are those of the block.
 use native.Mathlib.Omega.{arith}
 use borrow.Author.Needs.{needs}
-use mathlib.Core.Path.{_≡_, ap, sym, refl, _∙_}
-use Prim.Native.Nat.{ℕ, _≤_, _-_}
-use lib.ListN.{length, take, length-set}
-use lib.Seq.{take-all}
-use Rattle.digest.proofs.ScheduleLaws.{take-more, take-done}
+use mathlib.Core.Path.{_≡_, refl}
+use Prim.Native.Nat.{_≤_, _-_}
+use lib.ListN.{length, take}
+use Rattle.digest.proofs.FillLaws.{take-more, take-done}
 use Rattle.digest.proofs.first_words.Statement.{statement}
 use Rattle.digest.proofs.first_words.Tie as tie
 
@@ -42,7 +41,9 @@ loop-again c =
     (omega arith, search needs, take-more (c .before .before .args .t1) (p .w) (p .t) (search needs) (omega arith) refl (p .inv .2))
 
 returns : tie.Need-returns Inv-loop μ-loop
-returns c = take-done (c .before .before .args .t1) (c .before .loop .w) (c .before .loop .t) 16 (omega arith) (search needs) (c .before .loop .inv .2)
+returns c =
+    let p = c .before .loop in
+    take-done (c .before .before .args .t1) (p .w) (p .t) 16 (omega arith) (search needs) (p .inv .2)
 
 pub first-words-spec : {M : Type 1} → statement M
 first-words-spec =

@@ -1,6 +1,5 @@
 -- The sums in the order of the formula.
 use borrow.Author.Needs.{needs}
-use mathlib.Core.Path.{_≡_}
 use Rattle.digest.proofs.next.Statement.{statement}
 use Rattle.digest.proofs.next.Tie as tie
 

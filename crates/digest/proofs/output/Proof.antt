@@ -34,9 +34,13 @@ put-requires-8 c κs = search needs
 
 returns : tie.Need-returns
 returns c =
-    let h : length (c .put8 .result) ≡ 32 = search needs in
-    sym (take-all 32 (c .put8 .result) (omega arith))
-    ∙ output-law (c .before .before .before .before .before .before .before .before .args .v) (c .before .before .before .before .before .before .before .put .ensures) (c .before .before .before .before .before .before .put2 .ensures) (c .before .before .before .before .before .put3 .ensures) (c .before .before .before .before .put4 .ensures) (c .before .before .before .put5 .ensures) (c .before .before .put6 .ensures) (c .before .put7 .ensures) (c .put8 .ensures)
+    let r = c .put8 .result in
+    let h : length r ≡ 32 = search needs in
+    let c₄ = c .before .before .before .before in
+    let c₁ = c₄ .before .before .before in
+    sym (take-all 32 r (omega arith))
+    ∙ output-law (c₁ .before .args .v) (c₁ .put .ensures) (c₄ .before .before .put2 .ensures) (c₄ .before .put3 .ensures) (c₄ .put4 .ensures)
+    (c .before .before .before .put5 .ensures) (c .before .before .put6 .ensures) (c .before .put7 .ensures) (c .put8 .ensures)
 
 pub output-spec : {M : Type 1} → statement M
 output-spec =

@@ -2,9 +2,9 @@
 use native.Mathlib.Omega.{arith}
 use borrow.Author.Needs.{needs}
 use denote.Ref.{now}
-use mathlib.Core.Path.{_≡_, ap, sym, refl, _∙_}
-use Prim.Native.Nat.{ℕ, _≤_, _-_, _+_, _%_}
-use lib.ListN.{length, take, drop}
+use mathlib.Core.Path.{_≡_}
+use Prim.Native.Nat.{_≤_, _-_, _%_}
+use lib.ListN.{drop}
 use Rattle.digest.specs.Sha256.{rounds}
 use Rattle.digest.proofs.RoundLaws.{rounds-more, rounds-done}
 use Rattle.digest.proofs.rounds.Statement.{statement}

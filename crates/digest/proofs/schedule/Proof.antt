@@ -1,11 +1,9 @@
 -- The loop's invariant: the first t words are those of the schedule.
 use native.Mathlib.Omega.{arith}
 use borrow.Author.Needs.{needs}
-use mathlib.Core.Path.{_≡_, refl, sym, ap, _∙_}
-use mathlib.Core.List.{List}
-use Prim.Native.Nat.{ℕ, _≤_, _-_}
+use mathlib.Core.Path.{_≡_, refl}
+use Prim.Native.Nat.{_≤_, _-_}
 use lib.ListN.{length, take}
-use lib.Seq.{take-all}
 use Rattle.digest.specs.Sha256.{next, scheduleTo}
 use Rattle.digest.proofs.ScheduleLaws.{schedule-more, schedule-done}
 use Rattle.digest.proofs.schedule.Statement.{statement}
@@ -79,7 +77,8 @@ loop-again : tie.Need-loop-again Inv-loop μ-loop
 unfolding next
 loop-again c =
     let p = c .before .before .loop in
-    (omega arith, omega arith, search needs, schedule-more (p .w) (take 16 (c .before .before .before .first-words .result)) (p .t) (omega arith) (omega arith) (c .next .ensures) (p .inv .3))
+    let b = take 16 (c .before .before .before .first-words .result) in
+    (omega arith, omega arith, search needs, schedule-more (p .w) b (p .t) (omega arith) (omega arith) (c .next .ensures) (p .inv .3))
 
 returns : tie.Need-returns Inv-loop μ-loop
 returns c =

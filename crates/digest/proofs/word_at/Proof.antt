@@ -37,7 +37,9 @@ word-requires : tie.Need-word-requires
 word-requires c κs = search needs
 
 returns : tie.Need-returns
-returns c = word-in (now (c .before .before .before .before .before .before .before .args .m)) (c .before .before .before .before .before .before .before .args .j) (c .before .before .before .before .before .before .before .pre) (c .before .before .before .before .before .if1 .taken) (c .word .ensures)
+returns c =
+    let a = c .before .before .before .before .before .before .before in
+    word-in (now (a .args .m)) (a .args .j) (a .pre) (c .before .before .before .before .before .if1 .taken) (c .word .ensures)
 
 byte-at-requires : tie.Need-byte-at-requires
 byte-at-requires c κs = search needs
@@ -64,7 +66,11 @@ word-requires-2 : tie.Need-word-requires-2
 word-requires-2 c κs = search needs
 
 returns-2 : tie.Need-returns-2
-returns-2 c = word-law (now (c .before .before .before .before .before .before .before .before .args .m)) (c .before .before .before .before .before .before .before .before .args .j) (c .before .before .before .before .before .before .before .before .pre) (c .before .before .before .before .byte-at .ensures) (c .before .before .before .byte-at2 .ensures) (c .before .before .byte-at3 .ensures) (c .before .byte-at4 .ensures) (c .word2 .ensures)
+returns-2 c =
+    let b = c .before .before .before .before in
+    let a = b .before .before .before .before in
+    word-law (now (a .args .m)) (a .args .j) (a .pre) (b .byte-at .ensures) (c .before .before .before .byte-at2 .ensures) (c .before .before .byte-at3 .ensures)
+    (c .before .byte-at4 .ensures) (c .word2 .ensures)
 
 add-end : tie.Need-add-end
 add-end c = search needs
@@ -76,13 +82,17 @@ add-end-2 : tie.Need-add-end-2
 add-end-2 c = search needs
 
 returns-3 : tie.Need-returns-3
-returns-3 c = word-zero (now (c .before .before .before .before .args .m)) (c .before .before .before .before .args .j) (c .before .before .before .before .pre) (omega arith) (c .if3 .taken)
+returns-3 c =
+    let a = c .before .before .before .before in
+    word-zero (now (a .args .m)) (a .args .j) (a .pre) (omega arith) (c .if3 .taken)
 
 cast-result : tie.Need-cast-result
 cast-result c = search needs
 
 returns-4 : tie.Need-returns-4
-returns-4 c = word-high (now (c .before .before .before .before .before .args .m)) (c .before .before .before .before .before .args .j) (c .before .before .before .before .before .pre) (c .if4 .taken)
+returns-4 c =
+    let a = c .before .before .before .before .before in
+    word-high (now (a .args .m)) (a .args .j) (a .pre) (c .if4 .taken)
 
 mul-result : tie.Need-mul-result
 mul-result c = search needs
@@ -91,7 +101,9 @@ cast-result-2 : tie.Need-cast-result-2
 cast-result-2 c = search needs
 
 returns-5 : tie.Need-returns-5
-returns-5 c = word-low (now (c .before .before .before .before .before .args .m)) (c .before .before .before .before .before .args .j) (c .before .before .before .before .before .pre) (omega arith)
+returns-5 c =
+    let a = c .before .before .before .before .before in
+    word-low (now (a .args .m)) (a .args .j) (a .pre) (omega arith)
 
 pub word-at-spec : {M : Type 1} → statement M
 word-at-spec =

@@ -30,12 +30,17 @@ response input = bytes 32 63 input
 abbrev pub other : List ℕ → List ℕ
 other input = bytes 64 76 input
 
--- Both locks (house). TempKey as for MAC, but CheckFlag may be 1. Slot first: a use left.
+-- TempKey as for MAC, but CheckFlag may be 1.
+unfoldable pub checkMacTempKey : TempKey → Fields → Bool
+checkMacTempKey t f = usesTempKey f ⇒ (t .valid && sourceIsBit2 t f)
+
+-- Slot first: a use left.
+unfoldable pub checkMacSlot : List ℕ → Fields → Bool
+checkMacSlot config f = drawsKey f ⇒ useLeft config (key f)
+
+-- Both locks (house).
 unfoldable pub checkMacFree : Device → Fields → Bool
-checkMacFree d f =
-    bothLocked (d .config)
-    && (usesTempKey f ⇒ (d .tempKey .valid && sourceIsBit2 (d .tempKey) f))
-    && (drawsKey f ⇒ useLeft (d .config) (key f))
+checkMacFree d f = bothLocked (d .config) && checkMacTempKey (d .tempKey) f && checkMacSlot (d .config) f
 
 unfoldable pub checkMacDigest : Device → Fields → List ℕ → List ℕ
 checkMacDigest d f input =

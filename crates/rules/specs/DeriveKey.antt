@@ -7,6 +7,7 @@ use Rattle.digest.specs.Sha256.{sha256}
 use Rattle.rules.specs.declared.Device.{Device}
 use Rattle.rules.specs.declared.Fields.{Fields}
 use Rattle.rules.specs.declared.Slot.{Slot}
+use Rattle.rules.specs.declared.TempKey.{TempKey}
 use Rattle.rules.specs.declared.Status.the-variants.{Done}
 use Rattle.rules.specs.Words.{if_then_else_, _⇒_, _iff_, _is_, _under_, bit, byte, equal, onlyBits}
 use Rattle.rules.specs.State.{index, key, slotBytes, bothLocked, writeConfigBit, writeKey, checkOnly, useFlagAt, updateCountAt, emptied, statusByte}
@@ -35,19 +36,24 @@ source config f = if fromParent config f then parent config f else key f
 abbrev pub parentDrawn : List ℕ → Fields → Bool
 parentDrawn config f = fromParent config f || asksMac config f
 
--- Both locks (house); target bit 13; Valid, GenData 0, CheckFlag 0, SourceFlag = bit 2; MAC present exactly if bit 15.
+-- Valid, GenData 0, CheckFlag 0, SourceFlag = bit 2.
+unfoldable pub deriveKeyTempKey : TempKey → Fields → Bool
+deriveKeyTempKey t f = t .valid && not (t .genData) && not (t .checkFlag) && sourceIsBit2 t f
+
 -- Drawn slots: CheckOnly 0; the parent, if drawn, has a use left.
+unfoldable pub deriveKeySlots : List ℕ → Fields → Bool
+deriveKeySlots config f =
+    not (checkOnly config (source config f))
+    && (parentDrawn config f ⇒ (not (checkOnly config (parent config f)) && useLeft config (parent config f)))
+
+-- Both locks (house); target bit 13; Valid, GenData 0, CheckFlag 0, SourceFlag = bit 2; MAC present exactly if bit 15.
 unfoldable pub deriveKeyFree : Device → Fields → List ℕ → Bool
 deriveKeyFree d f input =
     bothLocked (d .config)
     && writeConfigBit 13 (d .config) (key f)
-    && d .tempKey .valid
-    && not (d .tempKey .genData)
-    && not (d .tempKey .checkFlag)
-    && sourceIsBit2 (d .tempKey) f
+    && deriveKeyTempKey (d .tempKey) f
     && (length input is 32 iff asksMac (d .config) f)
-    && not (checkOnly (d .config) (source (d .config) f))
-    && (parentDrawn (d .config) f ⇒ (not (checkOnly (d .config) (parent (d .config) f)) && useLeft (d .config) (parent (d .config) f)))
+    && deriveKeySlots (d .config) f
 
 -- DeriveKey draws on the source, and on the parent if bit 15.
 unfoldable pub deriveKeyDraws : List ℕ → Fields → List Slot

@@ -37,12 +37,17 @@ secondRow d f sent = if bit 0 (f .param1) then d .tempKey .bytes else sent
 abbrev pub sourceIsBit2 : TempKey → Fields → Bool
 sourceIsBit2 t f = t .sourceFlag iff bit 2 (f .param1)
 
--- Both locks (house). If TempKey is used: Valid, CheckFlag 0, SourceFlag = bit 2. Drawn slot: CheckOnly 0, a use left.
+-- If TempKey is used: Valid, CheckFlag 0, SourceFlag = bit 2.
+unfoldable pub macTempKey : TempKey → Fields → Bool
+macTempKey t f = usesTempKey f ⇒ (t .valid && not (t .checkFlag) && sourceIsBit2 t f)
+
+-- Drawn slot: CheckOnly 0, a use left.
+unfoldable pub macSlot : List ℕ → Fields → Bool
+macSlot config f = drawsKey f ⇒ (not (checkOnly config (key f)) && useLeft config (key f))
+
+-- Both locks (house).
 unfoldable pub macFree : Device → Fields → Bool
-macFree d f =
-    bothLocked (d .config)
-    && (usesTempKey f ⇒ (d .tempKey .valid && not (d .tempKey .checkFlag) && sourceIsBit2 (d .tempKey) f))
-    && (drawsKey f ⇒ (not (checkOnly (d .config) (key f)) && useLeft (d .config) (key f)))
+macFree d f = bothLocked (d .config) && macTempKey (d .tempKey) f && macSlot (d .config) f
 
 -- the slot that is drawn on, and its use
 unfoldable pub keyDrawn : Fields → List Slot

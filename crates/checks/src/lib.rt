@@ -1,0 +1,258 @@
+// MAC and CheckMac.
+ghost use mathlib.Core.Path.{_≡_};
+ghost use Rattle.rules.specs.Words.{equal};
+ghost use Rattle.rules.specs.Plan.{storeAll, reply, settle};
+ghost use Rattle.rules.specs.Mac.{macShape, macTempKey, macSlot, macFree, firstRow, secondRow, keySpent, mac};
+ghost use Rattle.rules.specs.CheckMac.{checkMacShape, checkMacTempKey, checkMacSlot, checkMacFree, checkMacDigest, response, copyTarget, copyHolds, checkMacKey, checkMacStatus, checkMac};
+use parts::config;
+use parts::replies;
+use parts::rows;
+use parts::uses;
+use rules::Device;
+use rules::Fields;
+use rules::Reply;
+use rules::Slot;
+use rules::Status;
+use rules::TempKey;
+
+fn mac_shape(f: Fields, input: &[u8]) -> bool
+    ensures { λ r. ⌜ r ≡ macShape f (now (input .entry)) ⌝ }
+{
+    if config::only_bits(0x77, f.param1) {
+        if f.param1 / 1 % 2 == 1 {
+            input.len() == 0
+        } else {
+            input.len() == 32
+        }
+    } else {
+        false
+    }
+}
+
+// Whether a flag equals bit 2 of Param1.
+fn is_bit2(flag: bool, f: Fields) -> bool {
+    if f.param1 / 4 % 2 == 1 { flag } else { !flag }
+}
+
+fn mac_temp_key(t: TempKey, f: Fields) -> bool
+    ensures { λ r. ⌜ r ≡ macTempKey t f ⌝ }
+{
+    if f.param1 % 4 == 0 {
+        return true;
+    }
+    if t.valid {
+        if t.checkFlag {
+            false
+        } else {
+            is_bit2(t.sourceFlag, f)
+        }
+    } else {
+        false
+    }
+}
+
+fn mac_slot(c: [u8; 88], f: Fields) -> bool
+    ensures { λ r. ⌜ r ≡ macSlot c f ⌝ }
+{
+    if f.param1 / 2 % 2 == 1 {
+        return true;
+    }
+    let k = config::key_of(f);
+    if config::slot_bit(4, c, k) {
+        false
+    } else {
+        uses::use_left(c, k)
+    }
+}
+
+fn mac_free(d: Device, f: Fields) -> bool
+    ensures { λ r. ⌜ r ≡ macFree d f ⌝ }
+{
+    let c = d.config;
+    let t = d.tempKey;
+    if config::both_locked(c) {
+        if mac_temp_key(t, f) {
+            mac_slot(c, f)
+        } else {
+            false
+        }
+    } else {
+        false
+    }
+}
+
+// The first 32 bytes of the message: TempKey or the slot.
+fn first_row(d: Device, f: Fields) -> [u8; 32]
+    ensures { λ r. ⌜ r ≡ firstRow d f ⌝ }
+{
+    if f.param1 / 2 % 2 == 1 {
+        let t = d.tempKey;
+        t.bytes
+    } else {
+        rows::slot_bytes(d, config::key_of(f))
+    }
+}
+
+// The second 32 bytes: TempKey or what was sent.
+fn second_row(d: Device, f: Fields, sent: [u8; 32]) -> [u8; 32]
+    ensures { λ r. ⌜ r ≡ secondRow d f sent ⌝ }
+{
+    if f.param1 / 1 % 2 == 1 {
+        let t = d.tempKey;
+        t.bytes
+    } else {
+        sent
+    }
+}
+
+// A use of the key spent, where it is drawn on.
+fn key_spent(d: Device, f: Fields) -> Device
+    ensures { λ r. ⌜ r ≡ storeAll d (keySpent (d .config) f) ⌝ }
+{
+    if f.param1 / 2 % 2 == 1 {
+        d
+    } else {
+        uses::spend_use(d, config::key_of(f))
+    }
+}
+
+pub fn mac(d: Device, f: Fields, input: &[u8]) -> Reply
+    ensures { λ r. ⌜ r ≡ reply (settle (mac d f (now (input .entry)))) d ⌝ }
+{
+    if mac_shape(f, input) {
+        if mac_free(d, f) {
+            let first = first_row(d, f);
+            let second = second_row(d, f, rows::row_of(input, 0, 32));
+            let otp = d.otp;
+            let c = d.config;
+            let answer = messages::mac_digest(first, second, f, otp, c);
+            let s = key_spent(d, f);
+            replies::ended(s, 32, answer)
+        } else {
+            replies::said(d, Status::Refused)
+        }
+    } else {
+        replies::said(d, Status::BadShape)
+    }
+}
+
+fn check_mac_shape(f: Fields, input: &[u8]) -> bool
+    ensures { λ r. ⌜ r ≡ checkMacShape f (now (input .entry)) ⌝ }
+{
+    if config::only_bits(0x27, f.param1) {
+        input.len() == 77
+    } else {
+        false
+    }
+}
+
+fn check_mac_temp_key(t: TempKey, f: Fields) -> bool
+    ensures { λ r. ⌜ r ≡ checkMacTempKey t f ⌝ }
+{
+    if f.param1 % 4 == 0 {
+        return true;
+    }
+    if t.valid {
+        is_bit2(t.sourceFlag, f)
+    } else {
+        false
+    }
+}
+
+fn check_mac_slot(c: [u8; 88], f: Fields) -> bool
+    ensures { λ r. ⌜ r ≡ checkMacSlot c f ⌝ }
+{
+    if f.param1 / 2 % 2 == 1 {
+        true
+    } else {
+        uses::use_left(c, config::key_of(f))
+    }
+}
+
+fn check_mac_free(d: Device, f: Fields) -> bool
+    ensures { λ r. ⌜ r ≡ checkMacFree d f ⌝ }
+{
+    let c = d.config;
+    let t = d.tempKey;
+    if config::both_locked(c) {
+        if check_mac_temp_key(t, f) {
+            check_mac_slot(c, f)
+        } else {
+            false
+        }
+    } else {
+        false
+    }
+}
+
+// Whether the digest equals the response.
+fn check_mac_equal(d: Device, f: Fields, input: &[u8]) -> bool
+    requires { ⌜ length (now input) ≡ 77 ⌝ }
+    ensures { λ r. ⌜ r ≡ equal (checkMacDigest d f (now (input .entry))) (response (now (input .entry))) ⌝ }
+{
+    let first = first_row(d, f);
+    let second = second_row(d, f, rows::row_of(input, 0, 32));
+    let other = rows::row_of(input, 64, 13);
+    let otp = d.otp;
+    let c = d.config;
+    let digest = messages::check_mac_digest(first, second, f, other, otp, c);
+    rows::equal_rows(&digest, &input[32..64])
+}
+
+fn copy_target(f: Fields) -> Slot
+    ensures { λ r. ⌜ r ≡ copyTarget f ⌝ }
+{
+    Slot((f.param2 % 16 / 2 * 2 + 1) as u8)
+}
+
+fn copy_holds(c: [u8; 88], f: Fields) -> bool
+    ensures { λ r. ⌜ r ≡ copyHolds c f ⌝ }
+{
+    let k = copy_target(f);
+    match f.param1 {
+        0x01 | 0x05 => {
+            let by = config::read_key(c, k);
+            if by.0 == 0 {
+                is_bit2(config::check_mac_bit(c, k), f)
+            } else {
+                false
+            }
+        }
+        _ => false,
+    }
+}
+
+// TempKey after a CheckMac: the target where it copies, else empty.
+fn check_mac_key(d: Device, f: Fields, same: bool) -> TempKey
+    ensures { λ r. ⌜ r ≡ checkMacKey d f same ⌝ }
+{
+    let c = d.config;
+    if same {
+        if copy_holds(c, f) {
+            return replies::taken_key(rows::slot_bytes(d, copy_target(f)), true);
+        }
+    }
+    replies::emptied_key()
+}
+
+fn check_mac_status(same: bool) -> Status
+    ensures { λ r. ⌜ r ≡ checkMacStatus same ⌝ }
+{
+    if same { Status::Done } else { Status::Unequal }
+}
+
+pub fn check_mac(d: Device, f: Fields, input: &[u8]) -> Reply
+    ensures { λ r. ⌜ r ≡ reply (settle (checkMac d f (now (input .entry)))) d ⌝ }
+{
+    if check_mac_shape(f, input) {
+        if check_mac_free(d, f) {
+            let same = check_mac_equal(d, f, input);
+            let key = check_mac_key(d, f, same);
+            replies::answered(key_spent(d, f), key, check_mac_status(same))
+        } else {
+            replies::said(d, Status::Refused)
+        }
+    } else {
+        replies::said(d, Status::BadShape)
+    }
+}

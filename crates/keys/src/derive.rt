@@ -1,0 +1,219 @@
+// DeriveKey.
+ghost use mathlib.Core.Path.{_≡_};
+ghost use lib.ListN.{length};
+ghost use mathlib.Core.List.{[]};
+ghost use Rattle.rules.specs.Words.{if_then_else_, _⇒_, _iff_, _is_, equal};
+ghost use Rattle.rules.specs.Uses.{spend};
+ghost use Rattle.rules.specs.Plan.{storeAll, reply, settle};
+ghost use Rattle.rules.specs.DeriveKey.{deriveKeyShape, parent, fromParent, asksMac, source, parentDrawn, deriveKeyTempKey, deriveKeySlots, deriveKeyFree, deriveKeyMac, newTarget, refilled, deriveKeyStores, deriveKey};
+use parts::config;
+use parts::replies;
+use parts::rows;
+use parts::stores;
+use parts::uses;
+use rules::Device;
+use rules::Fields;
+use rules::Reply;
+use rules::Slot;
+use rules::Status;
+use rules::TempKey;
+
+fn derive_shape(f: Fields, input: &[u8]) -> bool
+    ensures { λ r. ⌜ r ≡ deriveKeyShape f (now (input .entry)) ⌝ }
+{
+    if config::only_bits(0x04, f.param1) {
+        if input.len() == 0 {
+            true
+        } else {
+            input.len() == 32
+        }
+    } else {
+        false
+    }
+}
+
+fn parent_of(c: [u8; 88], f: Fields) -> Slot
+    ensures { λ r. ⌜ r ≡ parent c f ⌝ }
+{
+    config::write_key(c, config::key_of(f))
+}
+
+fn from_parent(c: [u8; 88], f: Fields) -> bool
+    ensures { λ r. ⌜ r ≡ fromParent c f ⌝ }
+{
+    config::slot_bit(12, c, config::key_of(f))
+}
+
+fn asks_mac(c: [u8; 88], f: Fields) -> bool
+    ensures { λ r. ⌜ r ≡ asksMac c f ⌝ }
+{
+    config::slot_bit(15, c, config::key_of(f))
+}
+
+fn parent_drawn(c: [u8; 88], f: Fields) -> bool
+    ensures { λ r. ⌜ r ≡ parentDrawn c f ⌝ }
+{
+    if from_parent(c, f) {
+        true
+    } else {
+        asks_mac(c, f)
+    }
+}
+
+fn source_of(c: [u8; 88], f: Fields) -> Slot
+    ensures { λ r. ⌜ r ≡ source c f ⌝ }
+{
+    if from_parent(c, f) {
+        parent_of(c, f)
+    } else {
+        config::key_of(f)
+    }
+}
+
+fn derive_temp_key(t: TempKey, f: Fields) -> bool
+    ensures { λ r. ⌜ r ≡ deriveKeyTempKey t f ⌝ }
+{
+    if t.valid {
+        if t.genData {
+            return false;
+        }
+        if t.checkFlag {
+            return false;
+        }
+        if f.param1 / 4 % 2 == 1 {
+            t.sourceFlag
+        } else {
+            !t.sourceFlag
+        }
+    } else {
+        false
+    }
+}
+
+fn derive_slots(c: [u8; 88], f: Fields) -> bool
+    ensures { λ r. ⌜ r ≡ deriveKeySlots c f ⌝ }
+{
+    if config::slot_bit(4, c, source_of(c, f)) {
+        return false;
+    }
+    if parent_drawn(c, f) {
+        let p = parent_of(c, f);
+        if config::slot_bit(4, c, p) {
+            false
+        } else {
+            uses::use_left(c, p)
+        }
+    } else {
+        true
+    }
+}
+
+// MAC present exactly if bit 15.
+fn mac_present(c: [u8; 88], f: Fields, input: &[u8]) -> bool
+    ensures { λ r. ⌜ r ≡ (length (now (input .entry)) is 32 iff asksMac c f) ⌝ }
+{
+    if asks_mac(c, f) {
+        input.len() == 32
+    } else {
+        input.len() != 32
+    }
+}
+
+fn derive_free(d: Device, f: Fields, input: &[u8]) -> bool
+    ensures { λ r. ⌜ r ≡ deriveKeyFree d f (now (input .entry)) ⌝ }
+{
+    let c = d.config;
+    let t = d.tempKey;
+    if config::both_locked(c) {
+        if config::slot_bit(13, c, config::key_of(f)) {
+            if derive_temp_key(t, f) {
+                if mac_present(c, f, input) {
+                    return derive_slots(c, f);
+                }
+            }
+        }
+    }
+    false
+}
+
+// Whether the MAC, where one is asked for, is right.
+fn mac_right(d: Device, f: Fields, input: &[u8]) -> bool
+    ensures { λ r. ⌜ r ≡ (asksMac (d .config) f ⇒ equal (deriveKeyMac d f) (now (input .entry))) ⌝ }
+{
+    let c = d.config;
+    if asks_mac(c, f) {
+        let m = messages::parent_digest(rows::slot_bytes(d, parent_of(c, f)), f, c);
+        rows::equal_rows(&m, input)
+    } else {
+        true
+    }
+}
+
+fn new_target(d: Device, f: Fields) -> [u8; 32]
+    ensures { λ r. ⌜ r ≡ newTarget d f ⌝ }
+{
+    let c = d.config;
+    let t = d.tempKey;
+    let old = t.bytes;
+    messages::layout96_digest(
+        rows::slot_bytes(d, source_of(c, f)),
+        messages::header_of(0x1C, f),
+        c,
+        old,
+    )
+}
+
+// UseFlag FF and UpdateCount plus one, of slots 0-7; `c` is the configuration from before the command.
+fn refill(d: Device, c: [u8; 88], k: Slot) -> Device
+    ensures { λ r. ⌜ r ≡ storeAll d (refilled c k) ⌝ }
+{
+    let i = k.0 % 16;
+    if i < 8 {
+        let at = 52 + 2 * (i as usize);
+        let s = stores::store_config(d, at, 0xFF);
+        stores::store_config(s, at + 1, std::num::wrapping_add_u8(c[at + 1], 1))
+    } else {
+        d
+    }
+}
+
+fn parent_spent(d: Device, f: Fields) -> Device
+    ensures { λ r. ⌜ r ≡ storeAll d (if parentDrawn (d .config) f then spend (d .config) (parent (d .config) f) else []) ⌝ }
+{
+    let c = d.config;
+    if parent_drawn(c, f) {
+        uses::spend_use(d, parent_of(c, f))
+    } else {
+        d
+    }
+}
+
+// The parent's use, then the new target, then the refill.
+fn derive_stores(d: Device, f: Fields) -> Device
+    ensures { λ r. ⌜ r ≡ storeAll d (deriveKeyStores d f) ⌝ }
+{
+    let c = d.config;
+    let k = config::key_of(f);
+    let row = new_target(d, f);
+    let s = parent_spent(d, f);
+    let t = stores::store_slot(s, k, row);
+    refill(t, c, k)
+}
+
+pub fn derive_key(d: Device, f: Fields, input: &[u8]) -> Reply
+    ensures { λ r. ⌜ r ≡ reply (settle (deriveKey d f (now (input .entry)))) d ⌝ }
+{
+    if derive_shape(f, input) {
+        if derive_free(d, f, input) {
+            if mac_right(d, f, input) {
+                replies::said(derive_stores(d, f), Status::Done)
+            } else {
+                replies::said(d, Status::Refused)
+            }
+        } else {
+            replies::said(d, Status::Refused)
+        }
+    } else {
+        replies::said(d, Status::BadShape)
+    }
+}

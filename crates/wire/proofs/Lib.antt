@@ -1,0 +1,5 @@
+-- The laws that belong to no one function.
+pub mod Xor
+pub mod Register
+pub mod Frame
+pub mod Laws

@@ -1,0 +1,3 @@
+-- The crate's definitions: Wire is the document's, Reversed is what the private functions promise besides.
+pub mod Wire
+pub mod Reversed

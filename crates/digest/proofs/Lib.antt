@@ -1,0 +1,6 @@
+pub mod PaddingLaws
+pub mod ScheduleLaws
+pub mod RoundLaws
+pub mod OutputLaws
+pub mod DigestLaws
+pub mod Vectors

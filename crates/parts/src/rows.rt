@@ -37,9 +37,8 @@ pub fn row_of(s: &[u8], at: usize, n: usize) -> [u8; 32]
 pub fn slot_bytes(d: Device, k: Slot) -> [u8; 32]
     ensures { λ r. ⌜ r ≡ slotBytes d k ⌝ }
 {
-    let z = d.data;
     let at = 32 * ((k.0 % 16) as usize);
-    row_of(&z, at, 32)
+    row_of(&d.data, at, 32)
 }
 
 pub fn equal_rows(a: &[u8], b: &[u8]) -> bool

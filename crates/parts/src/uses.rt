@@ -12,13 +12,11 @@ pub fn is_limited(c: [u8; 88], k: Slot) -> bool
     ensures { λ r. ⌜ r ≡ limited c k ⌝ }
 {
     let i = k.0 % 16;
+    let limited_use = slot_bit(5, c, k);
     if i < 8 {
-        return slot_bit(5, c, k);
+        return limited_use;
     }
-    if i == 15 {
-        return slot_bit(5, c, k);
-    }
-    false
+    if i == 15 { limited_use } else { false }
 }
 
 // The ones of LastKeyUse.

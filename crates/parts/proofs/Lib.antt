@@ -1,0 +1,2 @@
+-- Laws of a row, for proofs to cite.
+pub mod Row

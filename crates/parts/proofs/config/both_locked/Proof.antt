@@ -1,0 +1,21 @@
+-- Both locks are asked one after the other, as the rule asks them.
+use mathlib.Core.Path.{sym, _∙_}
+use borrow.Author.Needs.{needs}
+use Rattle.parts.proofs.config.both_locked.Statement.{statement}
+use Rattle.parts.proofs.config.both_locked.Tie as tie
+
+config-locked-requires : tie.Need-config-locked-requires
+config-locked-requires c κs = search needs
+
+values-locked-requires : tie.Need-values-locked-requires
+values-locked-requires c κs = search needs
+
+returns : tie.Need-returns
+returns c = rw (c .values-locked .ensures, sym (c .before .before .config-locked .ensures) ∙ c .before .if1 .taken)
+
+returns-2 : tie.Need-returns-2
+returns-2 c = rw (sym (c .before .config-locked .ensures) ∙ c .if1 .left)
+
+pub both-locked-spec : {M : Type 1} → statement M
+both-locked-spec =
+    tie.close (tie.spec config-locked-requires values-locked-requires returns returns-2)

@@ -1,0 +1,6 @@
+-- Laws of the rules, for proofs to cite.
+pub mod Tests
+pub mod Masks
+pub mod Rows
+pub mod Uses
+pub mod Stores

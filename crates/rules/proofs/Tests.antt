@@ -1,0 +1,44 @@
+-- Tests: both halves of an `&&`, both halves of an `||`, and the tests that a branch gives.
+use Prim.Native.Nat.{ℕ, _^_, _≤_, _<_}
+use mathlib.Core.Path.{_≡_, refl}
+use mathlib.Core.Bool.{Bool, true, false, _&&_, _||_, Bool·beq}
+use native.Mathlib.Omega.{arith}
+use native.Mathlib.Nat.{div-eq-of-lt, lt-of-lt-of-le, pow-le-pow-right}
+use lib.Dec.{T}
+use borrow.Author.Tests.{eq-eqb, ne-eqb, lt-ltb, le-ltb, le-leb, lt-leb}
+use Rattle.rules.specs.Words.{if_then_else_, bit}
+
+pub and-left : (a b : Bool) → (a && b) ≡ true → a ≡ true
+and-left true b h = refl
+and-left false b h = h
+
+pub and-right : (a b : Bool) → (a && b) ≡ true → b ≡ true
+and-right true b h = h
+and-right false b h = cc
+
+pub or-left : (a b : Bool) → (a || b) ≡ false → a ≡ false
+or-left true b h = h
+or-left false b h = refl
+
+pub or-right : (a b : Bool) → (a || b) ≡ false → b ≡ false
+or-right true b h = cc
+or-right false b h = h
+
+-- a bound on both cases
+pub if-within : (t : Bool) {a b n : ℕ} → a ≤ n → b ≤ n → (if t then a else b) ≤ n
+if-within true ha hb = ha
+if-within false ha hb = hb
+
+-- a number below 2 ^ k has no bit from k on
+pub bit-none : (n x k : ℕ) → x < 2 ^ k → k ≤ n → bit n x ≡ false
+bit-none n x k h l = rw (div-eq-of-lt {n = x} {m = 2 ^ n} (lt-of-lt-of-le h (pow-le-pow-right (omega arith) l)))
+
+-- two tests that antt computes to the same
+pub same : (a b : Bool) → T (Bool·beq a b) → a ≡ b
+same true true t = refl
+same false false t = refl
+same true false t = absurd t
+same false true t = absurd t
+
+-- the tests that a branch gives: `search tests` rewrites a rule's cases by them
+pub ruleset tests = (eq-eqb, ne-eqb, lt-ltb, le-ltb, le-leb, lt-leb)

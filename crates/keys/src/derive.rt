@@ -2,7 +2,8 @@
 ghost use mathlib.Core.Path.{_≡_};
 ghost use lib.ListN.{length};
 ghost use mathlib.Core.List.{[]};
-ghost use Rattle.rules.specs.Words.{if_then_else_, _⇒_, _iff_, _is_, equal};
+ghost use Rattle.wire.specs.Wire.{if_then_else_};
+ghost use Rattle.rules.specs.Words.{_⇒_, _iff_, _is_, equal};
 ghost use Rattle.rules.specs.Uses.{spend};
 ghost use Rattle.rules.specs.Plan.{storeAll, reply, settle};
 ghost use Rattle.rules.specs.DeriveKey.{deriveKeyShape, parent, fromParent, asksMac, source, parentDrawn, deriveKeyTempKey, deriveKeySlots, deriveKeyFree, deriveKeyMac, newTarget, refilled, deriveKeyStores, deriveKey};

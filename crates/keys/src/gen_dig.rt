@@ -1,7 +1,8 @@
 // GenDig.
 ghost use mathlib.Core.Path.{_≡_};
 ghost use mathlib.Core.Bool.{true, _&&_, _||_};
-ghost use Rattle.rules.specs.Words.{if_then_else_, _under_};
+ghost use Rattle.wire.specs.Wire.{if_then_else_};
+ghost use Rattle.rules.specs.Words.{_under_};
 ghost use Rattle.rules.specs.State.{key, slot};
 ghost use Rattle.rules.specs.Plan.{storeAll, reply, settle};
 ghost use Rattle.rules.specs.GenDig.{fromData, keyNamed, checkOnlyKey, genDigShape, genDigFree, genDigValue, genDigHeader, genDigKey, genDigSpent, genDig};

@@ -4,7 +4,8 @@ ghost use mathlib.Core.List.{_++_};
 ghost use Prim.Native.Nat.{_+_, _≤_};
 ghost use lib.ListN.{length, take};
 ghost use Rattle.digest.specs.Sha256.{sha256};
-ghost use Rattle.rules.specs.Words.{if_then_else_, zeros};
+ghost use Rattle.wire.specs.Wire.{if_then_else_};
+ghost use Rattle.rules.specs.Words.{zeros};
 ghost use Rattle.rules.specs.Messages.{header, nonceMessage, macMessage, checkMacMessage, layout96, parentMessage};
 use rules::Fields;
 

@@ -10,7 +10,8 @@ use lib.ListN.{length, getD, take, drop, set, length-append, length-take, length
 use lib.Seq.{take-all, take-at, take-length, take-take, getD-drop, paste, paste-suc}
 use lib.Dec.{ltb}
 use borrow.Author.Tests.{ltb-true, ltb-false}
-use Rattle.rules.specs.Words.{if_then_else_, _under_, zeros}
+use Rattle.wire.specs.Wire.{if_then_else_}
+use Rattle.rules.specs.Words.{_under_, zeros}
 use Rattle.rules.proofs.Rows.{take-zeros, drop-zeros}
 use Rattle.parts.specs.Row.{row, fitting}
 

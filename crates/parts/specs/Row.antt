@@ -2,7 +2,8 @@
 use Prim.Native.Nat.{ℕ, _-_}
 use mathlib.Core.List.{List, _++_}
 use lib.ListN.{take, drop}
-use Rattle.rules.specs.Words.{if_then_else_, _under_, zeros}
+use Rattle.wire.specs.Wire.{if_then_else_}
+use Rattle.rules.specs.Words.{_under_, zeros}
 
 -- the n bytes of a list from a position on, as many as there are, filled up with zeros to 32
 unfoldable pub row : List ℕ → ℕ → ℕ → List ℕ

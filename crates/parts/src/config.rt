@@ -2,8 +2,16 @@
 ghost use mathlib.Core.Path.{_≡_};
 ghost use lib.Bits.{bitAnd};
 ghost use Rattle.rules.specs.Words.{_is_, bit};
-ghost use Rattle.rules.specs.State.{slotConfig, slot, writeKey, readKey, checkMacBit, configLocked, valuesLocked, bothLocked};
+ghost use Rattle.rules.specs.State.{key, slotConfig, slot, writeKey, readKey, checkMacBit, configLocked, valuesLocked, bothLocked};
+use rules::Fields;
 use rules::Slot;
+
+// The key: the low four bits of Param2.
+pub fn key_of(f: Fields) -> Slot
+    ensures { λ r. ⌜ r ≡ key f ⌝ }
+{
+    Slot((f.param2 % 16) as u8)
+}
 
 // Whether a field has no bit outside a mask.
 pub fn only_bits(mask: u8, x: u8) -> bool

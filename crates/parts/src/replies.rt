@@ -1,6 +1,8 @@
 // Replies that most commands end in.
 ghost use mathlib.Core.Path.{_≡_};
-ghost use Rattle.rules.specs.State.{statusByte, emptied};
+ghost use mathlib.Core.List.{_∷_};
+ghost use Rattle.rules.specs.Words.{zeros};
+ghost use Rattle.rules.specs.State.{statusByte, emptied, taken};
 ghost use Rattle.rules.specs.Plan.{withTempKey, reply, says};
 use rules::Device;
 use rules::Reply;
@@ -50,4 +52,33 @@ pub fn said(d: Device, s: Status) -> Reply
     let mut bytes = [0u8; 32];
     bytes[0] = status_byte(s);
     ended(d, 1, bytes)
+}
+
+// 32 bytes taken into TempKey, with a SourceFlag.
+pub fn taken_key(bytes: [u8; 32], source: bool) -> TempKey
+    ensures { λ r. ⌜ r ≡ taken bytes source ⌝ }
+{
+    TempKey {
+        bytes,
+        slotID: Slot(0),
+        sourceFlag: source,
+        genData: false,
+        checkFlag: false,
+        valid: true,
+    }
+}
+
+// A TempKey left behind, and a status.
+pub fn answered(d: Device, key: TempKey, s: Status) -> Reply
+    ensures { λ r. ⌜ r ≡ record { device = withTempKey key d; len = 1; bytes = statusByte s ∷ zeros 31 } ⌝ }
+{
+    let mut bytes = [0u8; 32];
+    bytes[0] = status_byte(s);
+    let mut device = d;
+    device.tempKey = key;
+    Reply {
+        device,
+        len: 1,
+        bytes,
+    }
 }

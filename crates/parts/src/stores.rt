@@ -1,8 +1,11 @@
 // Bytes stored in a zone, one after the other; a byte beyond the zone stores nothing.
 ghost use mathlib.Core.Path.{_≡_};
+ghost use Prim.Native.Nat.{_*_};
+ghost use Rattle.rules.specs.State.{index};
 ghost use Rattle.rules.specs.Plan.{inConfig, inOtp, inData, store, storeAll, upwards};
 use crate::rows::room;
 use rules::Device;
+use rules::Slot;
 
 // One byte of the configuration.
 pub fn store_config(d: Device, at: usize, b: u8) -> Device
@@ -54,4 +57,11 @@ pub fn store_data_row(d: Device, at: usize, row: &[u8]) -> Device
         i += 1;
     }
     next
+}
+
+// The 32 bytes of a slot.
+pub fn store_slot(d: Device, k: Slot, row: [u8; 32]) -> Device
+    ensures { λ r. ⌜ r ≡ storeAll d (upwards inData (32 * index k) row) ⌝ }
+{
+    store_data_row(d, 32 * ((k.0 % 16) as usize), &row)
 }

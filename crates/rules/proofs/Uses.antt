@@ -10,7 +10,8 @@ use lib.ListN.{length, getD, take, drop}
 use lib.Seq.{drop-cons}
 use lib.Count.{ones, leadingZeros, leading-top}
 use Rattle.rules.specs.declared.Slot.{Slot}
-use Rattle.rules.specs.Words.{if_then_else_, _is_, byte}
+use Rattle.wire.specs.Wire.{if_then_else_}
+use Rattle.rules.specs.Words.{_is_, byte}
 use Rattle.rules.specs.State.{index, useFlagAt}
 use Rattle.rules.specs.Uses.{onesOf, firstNonzero, useAt}
 use Rattle.rules.proofs.Tests.{if-within}

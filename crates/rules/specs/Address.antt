@@ -7,7 +7,8 @@ use Rattle.rules.specs.declared.Fields.{Fields}
 use Rattle.rules.specs.declared.Slot.{Slot}
 use Rattle.rules.specs.declared.TempKey.{TempKey}
 use Rattle.rules.specs.declared.Word.{Word}
-use Rattle.rules.specs.Words.{if_then_else_, _⇒_, _iff_, _is_, _upTo_, bit}
+use Rattle.wire.specs.Wire.{if_then_else_}
+use Rattle.rules.specs.Words.{_⇒_, _iff_, _is_, _upTo_, bit}
 use Rattle.rules.specs.State.{slot, index, checkMacBit}
 
 -- Bits 1-0 zone 0-2.

@@ -10,7 +10,8 @@ use Rattle.rules.specs.declared.Slot.{Slot}
 use Rattle.rules.specs.declared.TempKey.{TempKey}
 use Rattle.rules.specs.declared.Status.{Status}
 use Rattle.rules.specs.declared.Status.the-variants.{Done, Unequal}
-use Rattle.rules.specs.Words.{if_then_else_, _⇒_, _iff_, _is_, bit, bytes, equal, onlyBits}
+use Rattle.wire.specs.Wire.{if_then_else_}
+use Rattle.rules.specs.Words.{_⇒_, _iff_, _is_, bit, bytes, equal, onlyBits}
 use Rattle.rules.specs.State.{slot, index, key, slotBytes, bothLocked, readKey, checkMacBit, emptied, taken, statusByte}
 use Rattle.rules.specs.Plan.{Plan, Rule}
 use Rattle.rules.specs.Uses.{useLeft}

@@ -5,7 +5,8 @@ use mathlib.Core.List.{List}
 use Rattle.rules.specs.declared.Device.{Device}
 use Rattle.rules.specs.declared.Fields.{Fields}
 use Rattle.rules.specs.declared.Status.the-variants.{BadShape}
-use Rattle.rules.specs.Words.{if_then_else_, _is_}
+use Rattle.wire.specs.Wire.{if_then_else_}
+use Rattle.rules.specs.Words.{_is_}
 use Rattle.rules.specs.Plan.{Plan, Rule, says, settle}
 use Rattle.rules.specs.Nonce.{nonce, random}
 use Rattle.rules.specs.Mac.{mac}

@@ -9,7 +9,8 @@ use Rattle.rules.specs.declared.Fields.{Fields}
 use Rattle.rules.specs.declared.Slot.{Slot}
 use Rattle.rules.specs.declared.TempKey.{TempKey}
 use Rattle.rules.specs.declared.Status.the-variants.{Done}
-use Rattle.rules.specs.Words.{if_then_else_, _⇒_, _iff_, _is_, _under_, bit, byte, equal, onlyBits}
+use Rattle.wire.specs.Wire.{if_then_else_}
+use Rattle.rules.specs.Words.{_⇒_, _iff_, _is_, _under_, bit, byte, equal, onlyBits}
 use Rattle.rules.specs.State.{index, key, slotBytes, bothLocked, writeConfigBit, writeKey, checkOnly, useFlagAt, updateCountAt, emptied, statusByte}
 use Rattle.rules.specs.Plan.{Store, inConfig, inData, upwards, Plan, refusedAfter, Rule}
 use Rattle.rules.specs.Uses.{useLeft, spend}

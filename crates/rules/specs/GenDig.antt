@@ -9,7 +9,8 @@ use Rattle.rules.specs.declared.Fields.{Fields}
 use Rattle.rules.specs.declared.Slot.{Slot}
 use Rattle.rules.specs.declared.TempKey.{TempKey}
 use Rattle.rules.specs.declared.Status.the-variants.{Done}
-use Rattle.rules.specs.Words.{if_then_else_, _⇒_, _is_, _under_, _upTo_}
+use Rattle.wire.specs.Wire.{if_then_else_}
+use Rattle.rules.specs.Words.{_⇒_, _is_, _under_, _upTo_}
 use Rattle.rules.specs.State.{slot, key, slotBytes, configLocked, checkOnly, statusByte}
 use Rattle.rules.specs.Plan.{Store, Plan, Rule}
 use Rattle.rules.specs.Uses.{useLeft, spend}

@@ -8,7 +8,8 @@ use Rattle.rules.specs.declared.Device.{Device}
 use Rattle.rules.specs.declared.Fields.{Fields}
 use Rattle.rules.specs.declared.Slot.{Slot}
 use Rattle.rules.specs.declared.TempKey.{TempKey}
-use Rattle.rules.specs.Words.{if_then_else_, _⇒_, _iff_, _is_, bit, onlyBits}
+use Rattle.wire.specs.Wire.{if_then_else_}
+use Rattle.rules.specs.Words.{_⇒_, _iff_, _is_, bit, onlyBits}
 use Rattle.rules.specs.State.{key, slotBytes, bothLocked, checkOnly, emptied}
 use Rattle.rules.specs.Plan.{Store, Plan, Rule}
 use Rattle.rules.specs.Uses.{useLeft, spend}

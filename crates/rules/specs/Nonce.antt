@@ -7,7 +7,8 @@ use Rattle.digest.specs.Sha256.{sha256}
 use Rattle.rules.specs.declared.Device.{Device}
 use Rattle.rules.specs.declared.Fields.{Fields}
 use Rattle.rules.specs.declared.Status.the-variants.{Done}
-use Rattle.rules.specs.Words.{if_then_else_, _is_, _under_}
+use Rattle.wire.specs.Wire.{if_then_else_}
+use Rattle.rules.specs.Words.{_is_, _under_}
 use Rattle.rules.specs.State.{configLocked, statusByte, taken}
 use Rattle.rules.specs.Plan.{Plan, Rule, gives}
 use Rattle.rules.specs.Messages.{nonceMessage}

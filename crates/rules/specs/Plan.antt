@@ -10,7 +10,8 @@ use Rattle.rules.specs.declared.Slot.{Slot}
 use Rattle.rules.specs.declared.TempKey.{TempKey}
 use Rattle.rules.specs.declared.Status.{Status}
 use Rattle.rules.specs.declared.Status.the-variants.{Done, BadShape, Refused}
-use Rattle.rules.specs.Words.{if_then_else_, zeros}
+use Rattle.wire.specs.Wire.{if_then_else_}
+use Rattle.rules.specs.Words.{zeros}
 use Rattle.rules.specs.State.{emptied, statusByte}
 
 -- one byte stored at a position of a zone

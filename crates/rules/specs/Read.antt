@@ -5,7 +5,8 @@ use mathlib.Core.List.{List, [], _∷_}
 use lib.ListN.{length, take, drop}
 use Rattle.rules.specs.declared.Device.{Device}
 use Rattle.rules.specs.declared.Fields.{Fields}
-use Rattle.rules.specs.Words.{if_then_else_, _is_, _under_, bit, onlyBits, xorRow}
+use Rattle.wire.specs.Wire.{if_then_else_}
+use Rattle.rules.specs.Words.{_is_, _under_, bit, onlyBits, xorRow}
 use Rattle.rules.specs.State.{slotBytes, bothLocked, otpMode, isSecret, encryptRead, readKey}
 use Rattle.rules.specs.Plan.{Plan, Rule, gives}
 use Rattle.rules.specs.Address.{zone, size, word, slotOf, addressFits, position, encrypts, encryptsFor}

@@ -13,7 +13,8 @@ use Rattle.rules.specs.declared.Number.{Number}
 use Rattle.rules.specs.declared.Number.the-variants.{Answered, ShortOutput, WrongRandom, NoAnswer, WrongImage}
 use Rattle.rules.specs.declared.Status.{Status}
 use Rattle.rules.specs.declared.Status.the-variants.{Done, Unequal, BadShape, Refused, Woken, Damaged}
-use Rattle.rules.specs.Words.{if_then_else_, _is_, bit, byte, bytes, zeros}
+use Rattle.wire.specs.Wire.{if_then_else_}
+use Rattle.rules.specs.Words.{_is_, bit, byte, bytes, zeros}
 
 -- ---- the document's numbers
 

@@ -3,10 +3,10 @@ use Prim.Native.Nat.{ℕ, _%_, _/_}
 use mathlib.Core.Bool.{Bool, true, false, not, _&&_, _||_}
 use mathlib.Core.List.{List, [], _∷_, _++_}
 use lib.ListN.{length}
-use Rattle.wire.specs.Wire.{checkValue}
+use Rattle.wire.specs.Wire.{checkValue, if_then_else_}
 use Rattle.rules.specs.declared.Device.{Device}
 use Rattle.rules.specs.declared.Fields.{Fields}
-use Rattle.rules.specs.Words.{if_then_else_, _⇒_, _is_, _under_, bit, byte, onlyBits}
+use Rattle.rules.specs.Words.{_⇒_, _is_, _under_, bit, byte, onlyBits}
 use Rattle.rules.specs.State.{configLocked, valuesLocked, revNum, selectorMode, userExtraAt, selectorAt, lockValueAt, lockConfigAt}
 use Rattle.rules.specs.Plan.{inConfig, Rule, gives, puts}
 

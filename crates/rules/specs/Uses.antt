@@ -5,7 +5,8 @@ use mathlib.Core.Bool.{Bool, true, false, _&&_, _||_}
 use mathlib.Core.List.{List, [], _∷_}
 use lib.Count.{ones, leadingZeros}
 use Rattle.rules.specs.declared.Slot.{Slot}
-use Rattle.rules.specs.Words.{if_then_else_, _⇒_, _is_, _under_, byte, bytes}
+use Rattle.wire.specs.Wire.{if_then_else_}
+use Rattle.rules.specs.Words.{_⇒_, _is_, _under_, byte, bytes}
 use Rattle.rules.specs.State.{index, limitedUse, useFlagAt}
 use Rattle.rules.specs.Plan.{Store, inConfig}
 

@@ -5,11 +5,7 @@ use mathlib.Core.List.{List, [], _∷_}
 use lib.ListN.{getD, take, drop, replicate}
 use lib.Bits.{bitXor}
 use lib.Dec.{ltb, leb, eqb}
-
-infix 10 if_then_else_
-abbrev pub if_then_else_ : {A : Type 0} → Bool → A → A → A
-if true then a else b = a
-if false then a else b = b
+use Rattle.wire.specs.Wire.{if_then_else_}
 
 -- `a ⇒ b`: b is asked only where a holds; `a iff b`: both hold or neither
 infixr 32 _⇒_

@@ -7,7 +7,8 @@ use lib.Bits.{bitAnd}
 use Rattle.digest.specs.Sha256.{sha256}
 use Rattle.rules.specs.declared.Device.{Device}
 use Rattle.rules.specs.declared.Fields.{Fields}
-use Rattle.rules.specs.Words.{if_then_else_, _⇒_, _iff_, _is_, _upTo_, bit, bytes, equal, onlyBits, xorRow}
+use Rattle.wire.specs.Wire.{if_then_else_}
+use Rattle.rules.specs.Words.{_⇒_, _iff_, _is_, _upTo_, bit, bytes, equal, onlyBits, xorRow}
 use Rattle.rules.specs.State.{configLocked, valuesLocked, otpMode, isSecret, writeConfigBit, writeKey}
 use Rattle.rules.specs.Plan.{Store, inConfig, inOtp, inData, upwards, Plan, puts, refusedAfter, Rule}
 use Rattle.rules.specs.Messages.{header, layout96}

@@ -5,7 +5,8 @@ use lib.ListN.{length}
 use Rattle.rules.specs.declared.Number.{Number}
 use Rattle.rules.specs.declared.Number.the-variants.{ShortOutput, WrongRandom}
 use Rattle.rules.specs.declared.Power.the-variants.{Asleep}
-use Rattle.rules.specs.Words.{if_then_else_, _is_, _under_}
+use Rattle.wire.specs.Wire.{if_then_else_}
+use Rattle.rules.specs.Words.{_is_, _under_}
 use Rattle.rules.specs.State.{freshDevice, freshNumber}
 use Rattle.rules.specs.Events.{Turn, numberFor}
 use Rattle.token.specs.declared.Token.{Token}

@@ -1,6 +1,6 @@
 -- Laws of XOR. A function is additive where it takes XOR to XOR; two such functions that are equal at the single bits 1, 2, 4, .. are equal.
 use Prim.Native.Nat.{ℕ, zero, suc, _+_, _*_, _/_, _%_, _^_, _<_}
-use mathlib.Core.Path.{_≡_, refl, sym, ap, ap₂, _∙_, subst}
+use mathlib.Core.Path.{_≡_, refl, sym, _∙_}
 use mathlib.Core.Bool.{Bool, true, _&&_, and-eq-true-iff}
 use native.Mathlib.Nat.{mod-lt, not-suc-le-zero, le-of-suc-le-suc, add-zero, zero-mul, one-mul, div-lt-iff-lt-mul}
 use native.Mathlib.Omega.{arith}
@@ -11,7 +11,7 @@ use borrow.Author.Tests.{eqb-true}
 use lib.Bits.{bitXor, bitAnd, xor-shr, xor-mod, xor-block, xor-zero-r, xor-comm, xor-self, xor-shifted, and-shr, and-mod}
 use lib.Count.{ones, ones-step}
 
--- ---- what holds of both bits holds of a number's lowest
+-- ---- what holds of 0 and 1 holds of a bit, and of a number's lowest bit
 
 pub on-bit : (P : ℕ → Type 0) → P 0 → P 1 → (x : ℕ) → x < 2 → P x
 on-bit P p q zero h = p
@@ -64,6 +64,7 @@ and-xor =
 pub xor-left-comm : (a b c : ℕ) → bitXor a (bitXor b c) ≡ bitXor b (bitXor a c)
 xor-left-comm a b c = rw (← xor-assoc a b c, xor-comm a b) (xor-assoc b a c)
 
+-- both sides of an equation in one order
 pub ruleset sorted = (xor-assoc, xor-comm, xor-left-comm)
 
 -- ---- additive functions
@@ -73,6 +74,9 @@ Additive f = (a b : ℕ) → f (bitXor a b) ≡ bitXor (f a) (f b)
 
 pub times-power : (k : ℕ) → Additive (λ x. x * 2 ^ k)
 times-power k a b = sym (simp add-zero at (xor-block k a b 0 0 (pow-pos k) (pow-pos k)))
+
+pub low-sixteen : Additive (λ x. x % 2 ^ 16)
+low-sixteen a b = xor-mod a b 16
 
 -- a bit, times anything
 pub bit-times : (k a b : ℕ) → a < 2 → b < 2 → bitXor a b * k ≡ bitXor (a * k) (b * k)
@@ -101,6 +105,7 @@ odd-additive =
 
 -- ---- equal at the single bits, hence equal
 
+-- the test that f and g are equal at 1, 2, 4, .. up to 2 ^ (n - 1)
 abbrev pub same : (ℕ → ℕ) → (ℕ → ℕ) → ℕ → Bool
 same f g zero = true
 same f g (suc n) = eqb (f (2 ^ n)) (g (2 ^ n)) && same f g n
@@ -116,6 +121,7 @@ module _ (f g : ℕ → ℕ) (hf : Additive f) (hg : Additive g) where
       let r : ℕ = x % 2 ^ n in
       let rest : f r ≡ g r = agree n (p .1) r (mod-lt x (pow-pos n)) in
       let parts : x ≡ bitXor (x / 2 ^ n * 2 ^ n) r = sym (xor-shifted (x / 2 ^ n) n r (mod-lt x (pow-pos n)) ∙ split x n) in
+      let bit : x / 2 ^ n < 2 = div-lt-iff-lt-mul (pow-pos n) .1 (omega arith) in
+      let top = eqb-true (f (2 ^ n)) (g (2 ^ n)) (p .0) in
       rw parts
-      (on-bit (λ (t : ℕ). f (bitXor (t * 2 ^ n) r) ≡ g (bitXor (t * 2 ^ n) r)) (rw (zero-mul) rest)
-      (rw (one-mul, hf, hg) (cc (eqb-true (f (2 ^ n)) (g (2 ^ n)) (p .0)))) (x / 2 ^ n) (div-lt-iff-lt-mul (pow-pos n) .1 (omega arith)))
+      (on-bit (λ (t : ℕ). f (bitXor (t * 2 ^ n) r) ≡ g (bitXor (t * 2 ^ n) r)) (rw zero-mul rest) (rw (one-mul, hf, hg) (cc)) (x / 2 ^ n) bit)

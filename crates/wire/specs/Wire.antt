@@ -7,16 +7,17 @@ use lib.Bits.{bitXor}
 use lib.Dec.{eqb, leb}
 
 infix 20 if_then_else_
-
 abbrev pub if_then_else_ : {A : Type 0} → Bool → A → A → A
 if true then a else b = a
 if false then a else b = b
 
 -- ---- Check value: 16 bits, polynomial 8005, start 0, each byte's lowest bit first, over all bytes before it.
 
--- A bit enters: it is compared with the register's top bit, the register goes up one place, and where they differ 8005 is XORed in.
+-- A bit b enters the register c: it is compared with the top bit, the register goes up one place, and where they differ 8005 is XORed in.
 unfoldable pub bitIn : ℕ → ℕ → ℕ
-bitIn c b = if eqb (c / 0x8000) b then c * 2 % 0x10000 else bitXor 0x8005 (c * 2 % 0x10000)
+bitIn c b =
+    let up : ℕ = c * 2 % 0x10000 in
+    if eqb (c / 0x8000) b then up else bitXor up 0x8005
 
 -- The n lowest bits of x enter, lowest first.
 unfoldable pub bitsIn : ℕ → ℕ → ℕ → ℕ
@@ -36,17 +37,18 @@ checkValue l = checkFrom 0 l
 unfoldable pub lowFirst : ℕ → List ℕ
 lowFirst c = c % 256 ∷ c / 256 ∷ []
 
+-- The bytes of an answer after their count, which counts itself and the check value too.
 unfoldable pub counted : List ℕ → List ℕ
 counted p = (length p + 3) ∷ p
 
 unfoldable pub frame : List ℕ → List ℕ
 frame p = counted p ++ lowFirst (checkValue (counted p))
 
--- An answer's bytes fit an output: they are at most 32, and the output has at least 35 bytes.
+-- An answer's bytes p fit an output: they are at most 32, and the output has at least 35 bytes.
 unfoldable pub fits : List ℕ → List ℕ → Bool
 fits out p = leb (length p) 32 && leb 35 (length out)
 
--- The length of the frame that is put at the front of an output, 0 where the bytes do not fit; and the output then.
+-- Where they fit, their frame is put at the front of the output and its length given; else nothing is put, and 0 given.
 unfoldable pub putLength : List ℕ → List ℕ → ℕ
 putLength out p = if fits out p then length p + 3 else 0
 

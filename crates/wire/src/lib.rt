@@ -47,12 +47,12 @@ fn put_fitting(out: &mut [u8], p: &[u8]) -> usize
     ensures { λ r. ⌜ now (out .exit) ≡ frame (now (p .entry)) ++ drop (length (now (p .entry)) + 3) (now (out .entry)) ⌝ }
 {
     let n = p.len();
-    out[0] = (n + 3) as u8;
     let mut i: usize = 0;
     while i < n {
         out[1 + i] = p[i];
         i += 1;
     }
+    out[0] = (n + 3) as u8;
     let c = check_value(0, &out[..n + 1]);
     out[n + 1] = (c % 256) as u8;
     out[n + 2] = (c / 256) as u8;
@@ -91,7 +91,7 @@ pub fn is_whole(b: &[u8]) -> bool
     if 84 < n {
         return false;
     }
-    if b[0] as usize != n {
+    if b[0] != n as u8 {
         return false;
     }
     let end = n - 2;

@@ -1,21 +1,18 @@
 -- `wire::check_value` meets its contract: after i turns the register, in reverse order, is the check value of the first i bytes.
 use Prim.Native.Nat.{_≤_, _-_}
-use mathlib.Core.Path.{_≡_, _∙_, ap}
+use mathlib.Core.Path.{_≡_}
 use native.Mathlib.Omega.{arith}
 use borrow.Author.Needs.{needs}
 use denote.Ref.{now}
 use lib.ListN.{length, take, getD}
 use lib.Seq.{take-length}
-use Rattle.wire.specs.Wire.{bitsIn, checkFrom}
+use Rattle.wire.specs.Wire.{checkFrom}
 use Rattle.wire.specs.Reversed.{reversed}
-use Rattle.wire.proofs.Register.{twice, again}
+use Rattle.wire.proofs.Reversed.{twice}
+use Rattle.wire.proofs.Register.{byte-out}
 use Rattle.wire.proofs.Laws.{check-more}
 use Rattle.wire.proofs.check_value.Statement.{statement}
 use Rattle.wire.proofs.check_value.Tie as tie
-use Rattle.wire.proofs.check_value.Reads as reads
-use Rattle.wire.proofs.check_value.Lts as lts
-use Rattle.wire.proofs.byte_in.Reads as byte-in-reads
-use Rattle.wire.proofs.reverse.Reads as reverse-reads
 
 abbrev Inv-loop : tie.InvT-loop
 Inv-loop start s q₀ i₀ q i = (i ≤ length s) × (reversed 16 q ≡ checkFrom start (take i s))
@@ -47,7 +44,7 @@ loop-again c =
     let l = c .before .before .before in
     let a = l .before .before .before .args in
     let more = check-more (a .start) (now (a .s)) (l .loop .i) (omega arith) in
-    (omega arith, cc (again (l .loop .q) (getD (now (a .s)) (l .loop .i) 0), more))
+    (omega arith, cc (byte-out (l .loop .q) (getD (now (a .s)) (l .loop .i) 0), more))
 
 reverse-requires-2 : tie.Need-reverse-requires-2 Inv-loop μ-loop
 reverse-requires-2 c κs = search needs

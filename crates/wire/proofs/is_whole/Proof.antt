@@ -1,18 +1,12 @@
 -- `wire::is_whole` meets its contract: each test decides one part of the definition, in the same order.
-use mathlib.Core.Path.{_≡_, sym}
+use mathlib.Core.Path.{sym}
 use native.Mathlib.Omega.{arith}
 use borrow.Author.Needs.{needs}
 use borrow.Author.Tests.{le-leb, lt-leb, eq-eqb, ne-eqb}
-use denote.Ref.{now}
-use lib.ListN.{length}
 use lib.Seq.{length-take-le}
 use Rattle.wire.specs.Wire.{checkValue, lowFirstAt, whole}
 use Rattle.wire.proofs.is_whole.Statement.{statement}
 use Rattle.wire.proofs.is_whole.Tie as tie
-use Rattle.wire.proofs.is_whole.Reads as reads
-use Rattle.wire.proofs.is_whole.Lts as lts
-use Rattle.wire.proofs.check_value.Reads as check-value-reads
-use Rattle.wire.proofs.low_first.Reads as low-first-reads
 
 ruleset tests = (le-leb, lt-leb, eq-eqb, ne-eqb)
 
@@ -28,7 +22,7 @@ shared-slice-read-if3 : tie.Need-shared-slice-read-if3
 shared-slice-read-if3 c = search needs
 
 cast-if3 : tie.Need-cast-if3
-cast-if3 c = omega (arith, c .shared-slice-known2 .given 0)
+cast-if3 c = search needs
 
 returns-3 : tie.Need-returns-3
 unfolding whole

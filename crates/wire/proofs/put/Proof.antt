@@ -4,9 +4,6 @@ use borrow.Author.Tests.{le-leb, lt-leb}
 use Rattle.wire.specs.Wire.{fits, putLength, putOutput}
 use Rattle.wire.proofs.put.Statement.{statement}
 use Rattle.wire.proofs.put.Tie as tie
-use Rattle.wire.proofs.put.Reads as reads
-use Rattle.wire.proofs.put.Lts as lts
-use Rattle.wire.proofs.put_fitting.Reads as put-fitting-reads
 
 ruleset tests = (le-leb, lt-leb)
 

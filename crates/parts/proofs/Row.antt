@@ -7,8 +7,7 @@ use native.Mathlib.Omega.{arith}
 use native.Mathlib.Numerals.{add-one}
 use native.Mathlib.Nat.{zero-add}
 use lib.ListN.{length, getD, take, drop, set, length-append, length-take, length-drop, length-replicate}
-use lib.Seq.{take-all, take-at, take-length, take-take, getD-drop, paste, paste-suc}
-use lib.Dec.{ltb}
+use lib.Seq.{take-all, take-at, take-take, getD-drop, paste, paste-suc}
 use borrow.Author.Tests.{ltb-true, ltb-false}
 use Rattle.wire.specs.Wire.{if_then_else_}
 use Rattle.rules.specs.Words.{_under_, zeros}
@@ -61,14 +60,17 @@ row-more d s at i hd hs =
     let k : 0 + i < length d = omega arith in
     rw (add-one, ← paste-suc d 0 (drop at s) i 0 k h, getD-drop, zero-add)
 
+-- a part of a part
+take-both : (m n i : ℕ) (l : List ℕ) → i ≡ min (min n (length l)) m → take m (take n l) ≡ take i l
+take-both m n i l e =
+    let w : List ℕ = take m (take n l) in
+    let k : length w ≤ i = simp length-take (omega arith) in
+    sym (take-all i w k) ∙ take-take i m (take n l) (omega arith) ∙ take-take i n l (omega arith)
+
 -- the end of that loop
 pub row-copied : (l : List ℕ) (at n i : ℕ) → i ≡ min (min n (length l - at)) 32 → paste (zeros 32) 0 (drop at l) i ≡ row l at n
 row-copied l at n i e =
-    let w : List ℕ = take 32 (take n (drop at l)) in
-    let k : length w ≡ i = simp (length-take, length-drop) (omega arith) in
-    let t : take i (drop at l) ≡ w =
-    rw (← k) (sym (take-take (length w) n (drop at l) (simp (length-take, length-drop) (omega arith))) ∙ sym (take-take (length w) 32 (take n (drop at l)) (omega arith)) ∙ take-length w)
-    in
+    let t : take 32 (take n (drop at l)) ≡ take i (drop at l) = take-both 32 n i (drop at l) (rw length-drop e) in
     let f : 32 - min n (length l - at) ≡ 32 - i = omega arith in
     let z : drop (0 + i) (zeros 32) ≡ zeros (32 - i) = rw zero-add (drop-zeros i 32 (omega arith)) in
     cc (row-filled l at n, t, f, z)

@@ -2,7 +2,7 @@
 ghost use mathlib.Core.Path.{_≡_};
 ghost use lib.Bits.{bitAnd};
 ghost use Rattle.rules.specs.Words.{_is_, bit};
-ghost use Rattle.rules.specs.State.{key, slotConfig, slot, writeKey, readKey, checkMacBit, configLocked, valuesLocked, bothLocked};
+ghost use Rattle.rules.specs.State.{key, slotConfig, writeKey, readKey, checkMacBit, configLocked, valuesLocked, bothLocked};
 use rules::Fields;
 use rules::Slot;
 
@@ -20,7 +20,7 @@ pub fn only_bits(mask: u8, x: u8) -> bool
     x & mask == x
 }
 
-pub fn slot_config(c: [u8; 88], k: Slot) -> u16
+fn slot_config(c: [u8; 88], k: Slot) -> u16
     ensures { λ r. ⌜ r ≡ slotConfig c k ⌝ }
 {
     let at = 20 + 2 * ((k.0 % 16) as usize);
@@ -72,9 +72,7 @@ pub fn values_locked(c: [u8; 88]) -> bool
 pub fn both_locked(c: [u8; 88]) -> bool
     ensures { λ r. ⌜ r ≡ bothLocked c ⌝ }
 {
-    if config_locked(c) {
-        values_locked(c)
-    } else {
-        false
-    }
+    let config = config_locked(c);
+    let values = values_locked(c);
+    if config { values } else { false }
 }

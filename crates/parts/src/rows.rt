@@ -1,16 +1,13 @@
 // Rows of bytes: parts of a slice, a slot's bytes, comparing, XOR.
 ghost use mathlib.Core.Path.{_≡_};
-ghost use mathlib.Core.List.{_++_};
-ghost use Prim.Native.Nat.{_+_, _-_, _≤_};
-ghost use lib.ListN.{length, take, drop};
-ghost use Rattle.rules.specs.Words.{zeros, equal, xorRow};
+ghost use Rattle.rules.specs.Words.{equal, xorRow};
 ghost use Rattle.rules.specs.State.{slotBytes};
 ghost use Rattle.parts.specs.Row.{fitting, row};
 use rules::Device;
 use rules::Slot;
 
 // How many of n bytes stand in a zone of `len` bytes from a position on.
-pub fn room(len: usize, at: usize, n: usize) -> usize
+pub(crate) fn room(len: usize, at: usize, n: usize) -> usize
     ensures { λ r. ⌜ r ≡ fitting len at n ⌝ }
 {
     if len <= at {

@@ -8,7 +8,7 @@ use crate::stores::store_config;
 use rules::Device;
 use rules::Slot;
 
-pub fn is_limited(c: [u8; 88], k: Slot) -> bool
+fn is_limited(c: [u8; 88], k: Slot) -> bool
     ensures { λ r. ⌜ r ≡ limited c k ⌝ }
 {
     let i = k.0 % 16;
@@ -32,7 +32,7 @@ fn last_key_uses(c: [u8; 88]) -> usize
     sum
 }
 
-pub fn uses_left(c: [u8; 88], k: Slot) -> usize
+fn uses_left(c: [u8; 88], k: Slot) -> usize
     ensures { λ r. ⌜ r ≡ usesLeft c k ⌝ }
 {
     let i = k.0 % 16;
@@ -79,7 +79,7 @@ fn use_at(c: [u8; 88], k: Slot) -> usize
     }
 }
 
-pub fn clear_highest(b: u8) -> u8
+fn clear_highest(b: u8) -> u8
     ensures { λ r. ⌜ r ≡ clearHighest b ⌝ }
 {
     if b == 0 {

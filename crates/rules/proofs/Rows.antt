@@ -1,15 +1,21 @@
 -- Rows of bytes: two compared or XORed element by element, a row of zeros, a row copied over another.
 use Prim.Native.Nat.{ℕ, zero, suc, _+_, _-_, _≤_, _<_}
 use mathlib.Core.Path.{_≡_, refl, sym, ap, _∙_}
-use mathlib.Core.Bool.{Bool, true, false, _&&_, and-false}
+use mathlib.Core.Bool.{true, false, _&&_, and-false}
 use mathlib.Core.List.{List, [], _∷_, _++_, append-nil}
 use native.Mathlib.Omega.{arith}
 use native.Mathlib.Nat.{not-suc-le-zero, zero-add}
 use native.Mathlib.Numerals.{add-one}
 use lib.ListN.{length, getD, take, drop, set, length-replicate, replicate-append-replicate, drop-of-length-le}
-use lib.Seq.{drop-cons, take-at, drop-at, paste, paste-suc}
+use lib.Seq.{drop-cons, take-all, take-at, drop-at, paste, paste-suc}
 use lib.Bits.{bitXor}
 use Rattle.rules.specs.Words.{_is_, zeros, equal, xorRow}
+
+-- a row copied over all of another
+pub all-copied : (z x : List ℕ) (n : ℕ) → length z ≡ n → paste z 0 x n ≡ take n x
+all-copied z x n h =
+    let l : length z ≤ 0 + n = omega arith in
+    rw (drop-of-length-le z l) (append-nil (take n x))
 
 -- ---- equal rows
 
@@ -52,6 +58,10 @@ xor-more z a b i hz e h =
     let k : i < length x = omega (arith, length-xor a b e) in
     cc (add-one i, zero-add i, getD-xor a b i h (omega arith), paste-suc z 0 x i 0 (omega arith) k)
 
+-- the end of that loop
+pub xor-whole : (z a b : List ℕ) (n : ℕ) → length z ≡ n → length a ≡ n → length b ≡ n → paste z 0 (xorRow a b) n ≡ xorRow a b
+xor-whole z a b n hz ha hb = all-copied z (xorRow a b) n hz ∙ take-all n (xorRow a b) (omega (arith, length-xor a b (omega arith)))
+
 -- ---- zeros
 
 zeros-split : (n m : ℕ) → n ≤ m → zeros n ++ zeros (m - n) ≡ zeros m
@@ -62,9 +72,3 @@ take-zeros n m h = rw (← zeros-split n m h) (take-at (zeros n) (zeros (m - n))
 
 pub drop-zeros : (n m : ℕ) → n ≤ m → drop n (zeros m) ≡ zeros (m - n)
 drop-zeros n m h = rw (← zeros-split n m h) (drop-at (zeros n) (zeros (m - n)) n (length-replicate n 0))
-
--- ---- a row copied over all of another
-pub all-copied : (z x : List ℕ) (n : ℕ) → length z ≡ n → paste z 0 x n ≡ take n x
-all-copied z x n h =
-    let l : length z ≤ 0 + n = omega arith in
-    rw (drop-of-length-le z l) (append-nil (take n x))

@@ -1,5 +1,5 @@
 -- Bytes stored one after the other, upwards in a zone: one byte at a time, and all at once.
-use Prim.Native.Nat.{ℕ, suc, _+_, _-_, min, _≤_, _<_}
+use Prim.Native.Nat.{ℕ, _+_, _-_, min, _≤_, _<_}
 use mathlib.Core.Path.{_≡_, refl, sym, ap, _∙_}
 use mathlib.Core.Logic.{⊎-elim}
 use mathlib.Core.List.{List, [], _∷_}
@@ -54,15 +54,15 @@ dataZone = record {
   over = λ d l m. refl;
 }
 
--- a turn of a loop that stores a row: its i-th byte is stored, and the rest is left
-pub stored-more : (zone : ℕ → ℕ → Store) (d : Device) (at : ℕ) (l : List ℕ) (i : ℕ) → i < length l
-    → storeAll d (upwards zone (at + i) (drop i l))
-    ≡ storeAll (store d (zone (at + i) (getD l i 0))) (upwards zone (at + (i + 1)) (drop (i + 1) l))
-stored-more zone d at l i h =
-    let e : at + i + 1 ≡ at + (i + 1) = omega arith in
-    rw (drop-cons l i 0 h, e, add-one i)
-
 module _ (z : Zone) where
+  -- a turn of a loop that stores a row: its i-th byte is stored, and the rest is left
+  pub stored-more : (d : Device) (at : ℕ) (l : List ℕ) (i : ℕ) → i < length l
+      → storeAll d (upwards (z .at) (at + i) (drop i l))
+      ≡ storeAll (store d (z .at (at + i) (getD l i 0))) (upwards (z .at) (at + (i + 1)) (drop (i + 1) l))
+  stored-more d at l i h =
+      let e : at + i + 1 ≡ at + (i + 1) = omega arith in
+      rw (drop-cons l i 0 h, e, add-one i)
+
   beyond : (l : List ℕ) (d : Device) (p : ℕ) → length (z .get d) ≤ p → storeAll d (upwards (z .at) p l) ≡ d
   beyond [] d p h = refl
   beyond (b ∷ bs) d p h =

@@ -1,13 +1,12 @@
--- Tests: both halves of an `&&`, both halves of an `||`, and the tests that a branch gives.
+-- Tests: both halves of an `&&` or an `||`, a bound by cases, a bit that is not there, and the tests that a branch gives.
 use Prim.Native.Nat.{ℕ, _^_, _≤_, _<_}
 use mathlib.Core.Path.{_≡_, refl}
-use mathlib.Core.Bool.{Bool, true, false, _&&_, _||_, Bool·beq}
+use mathlib.Core.Bool.{Bool, true, false, _&&_, _||_}
 use native.Mathlib.Omega.{arith}
 use native.Mathlib.Nat.{div-eq-of-lt, lt-of-lt-of-le, pow-le-pow-right}
-use lib.Dec.{T}
 use borrow.Author.Tests.{eq-eqb, ne-eqb, lt-ltb, le-ltb, le-leb, lt-leb}
 use Rattle.wire.specs.Wire.{if_then_else_}
-use Rattle.rules.specs.Words.{bit}
+use Rattle.rules.specs.Words.{_iff_, bit}
 
 pub and-left : (a b : Bool) → (a && b) ≡ true → a ≡ true
 and-left true b h = refl
@@ -34,12 +33,11 @@ if-within false ha hb = hb
 pub bit-none : (n x k : ℕ) → x < 2 ^ k → k ≤ n → bit n x ≡ false
 bit-none n x k h l = rw (div-eq-of-lt {n = x} {m = 2 ^ n} (lt-of-lt-of-le h (pow-le-pow-right (omega arith) l)))
 
--- two tests that antt computes to the same
-pub same : (a b : Bool) → T (Bool·beq a b) → a ≡ b
-same true true t = refl
-same false false t = refl
-same true false t = absurd t
-same false true t = absurd t
+pub iff-same : (a b : Bool) → (a iff b) ≡ true → a ≡ b
+iff-same true true h = refl
+iff-same false false h = refl
+iff-same true false h = cc
+iff-same false true h = cc
 
 -- the tests that a branch gives: `search tests` rewrites a rule's cases by them
 pub ruleset tests = (eq-eqb, ne-eqb, lt-ltb, le-ltb, le-leb, lt-leb)

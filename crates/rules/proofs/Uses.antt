@@ -1,18 +1,17 @@
 -- Uses: the highest one bit of a byte, the ones of a row, the first byte that is not zero, and where a use is stored.
 use Prim.Native.Nat.{ℕ, zero, suc, _+_, _-_, _*_, _^_, _%_, _≤_, _<_}
-use mathlib.Core.Path.{_≡_, refl}
-use mathlib.Core.Bool.{Bool, true, false}
-use mathlib.Core.List.{List, [], _∷_}
+use mathlib.Core.Path.{_≡_}
+use mathlib.Core.List.{List}
 use native.Mathlib.Omega.{arith}
-use native.Mathlib.Nat.{one-mul, mod-eq-of-lt, lt-of-le-of-lt, mod-lt}
+use native.Mathlib.Nat.{one-mul, mod-eq-of-lt, lt-of-le-of-lt}
 use native.Mathlib.Numerals.{add-one}
-use lib.ListN.{length, getD, take, drop}
+use lib.ListN.{length, take, drop}
 use lib.Seq.{drop-cons}
 use lib.Count.{ones, leadingZeros, leading-top}
 use Rattle.rules.specs.declared.Slot.{Slot}
 use Rattle.wire.specs.Wire.{if_then_else_}
 use Rattle.rules.specs.Words.{_is_, byte}
-use Rattle.rules.specs.State.{index, useFlagAt}
+use Rattle.rules.specs.State.{index}
 use Rattle.rules.specs.Uses.{onesOf, firstNonzero, useAt}
 use Rattle.rules.proofs.Tests.{if-within}
 

@@ -1,4 +1,4 @@
--- Both locks are asked one after the other, as the rule asks them.
+-- The two tests are joined as the rule joins them.
 use mathlib.Core.Path.{sym, _∙_}
 use borrow.Author.Needs.{needs}
 use Rattle.parts.proofs.config.both_locked.Statement.{statement}
@@ -11,10 +11,10 @@ values-locked-requires : tie.Need-values-locked-requires
 values-locked-requires c κs = search needs
 
 returns : tie.Need-returns
-returns c = rw (c .values-locked .ensures, sym (c .before .before .config-locked .ensures) ∙ c .before .if1 .taken)
+returns c = rw (sym (c .before .before .config-locked .ensures) ∙ c .if1 .taken, c .before .values-locked .ensures)
 
 returns-2 : tie.Need-returns-2
-returns-2 c = rw (sym (c .before .config-locked .ensures) ∙ c .if1 .left)
+returns-2 c = rw (sym (c .before .before .config-locked .ensures) ∙ c .if1 .left)
 
 pub both-locked-spec : {M : Type 1} → statement M
 both-locked-spec =

@@ -35,12 +35,16 @@ cast-result-2 : tie.Need-cast-result-2
 cast-result-2 c = search needs
 
 mul-result : tie.Need-mul-result
-mul-result c = let h : Fits w8 (getD (c .before .args .t1) (20 + 2 * (c .before .args .k .0 % 16) + 1) 0) = search needs in omega arith
+mul-result c =
+    let a = c .before .args in
+    let h : Fits w8 (getD (a .t1) (20 + 2 * (a .k .0 % 16) + 1) 0) = search needs in
+    omega arith
 
 add-result-2 : tie.Need-add-result-2
 add-result-2 c =
-    let l : Fits w8 (getD (c .before .args .t1) (20 + 2 * (c .before .args .k .0 % 16)) 0) = search needs in
-    let h : Fits w8 (getD (c .before .args .t1) (20 + 2 * (c .before .args .k .0 % 16) + 1) 0) = search needs in
+    let a = c .before .args in
+    let l : Fits w8 (getD (a .t1) (20 + 2 * (a .k .0 % 16)) 0) = search needs in
+    let h : Fits w8 (getD (a .t1) (20 + 2 * (a .k .0 % 16) + 1) 0) = search needs in
     omega arith
 
 returns : tie.Need-returns

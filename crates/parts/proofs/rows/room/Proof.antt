@@ -2,7 +2,8 @@
 use Prim.Native.Nat.{_-_, zero-le}
 use mathlib.Core.Path.{_≡_}
 use native.Mathlib.Omega.{arith}
-use borrow.Author.Tests.{lt-ltb, le-ltb}
+use borrow.Author.Tests.{le-ltb}
+use Rattle.rules.proofs.Tests.{tests}
 use Rattle.parts.specs.Row.{fitting}
 use borrow.Author.Needs.{needs}
 use Rattle.parts.proofs.rows.room.Statement.{statement}
@@ -20,11 +21,11 @@ sub-result c = search needs
 
 returns-2 : tie.Need-returns-2
 unfolding fitting
-returns-2 c = rw (lt-ltb _ _ (c .if2 .taken))
+returns-2 c = search tests
 
 returns-3 : tie.Need-returns-3
 unfolding fitting
-returns-3 c = rw (le-ltb _ _ (c .if2 .left))
+returns-3 c = search tests
 
 pub room-spec : {M : Type 1} → statement M
 room-spec = tie.close (tie.spec returns sub-if2 sub-result returns-2 returns-3)

@@ -3,9 +3,9 @@ use Prim.Native.Nat.{_-_, _≤_}
 use mathlib.Core.Path.{_≡_, refl, _∙_}
 use native.Mathlib.Omega.{arith}
 use lib.ListN.{length}
-use lib.Seq.{paste, paste-zero, take-all}
+use lib.Seq.{paste, paste-zero}
 use Rattle.rules.specs.Words.{zeros, xorRow}
-use Rattle.rules.proofs.Rows.{length-xor, xor-more, all-copied}
+use Rattle.rules.proofs.Rows.{xor-more, xor-whole}
 use borrow.Author.Needs.{needs}
 use Rattle.parts.proofs.rows.xor_row.Statement.{statement}
 use Rattle.parts.proofs.rows.xor_row.Tie as tie
@@ -49,7 +49,7 @@ returns c =
     let ha : length a ≡ 32 = search needs in
     let hb : length b ≡ 32 = search needs in
     let e : c .before .loop .i ≡ 32 = omega arith in
-    c .before .loop .inv .1 ∙ rw e (all-copied (zeros 32) (xorRow a b) 32 refl ∙ take-all 32 (xorRow a b) (omega (arith, length-xor a b (omega arith))))
+    c .before .loop .inv .1 ∙ rw e (xor-whole (zeros 32) a b 32 refl ha hb)
 
 pub xor-row-spec : {M : Type 1} → statement M
 xor-row-spec =

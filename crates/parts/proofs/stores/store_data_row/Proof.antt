@@ -47,7 +47,7 @@ loop-again : tie.Need-loop-again Inv-loop μ-loop
 loop-again c =
     let p = c .before .before in
     let a = p .before .before .before .args in
-    (p .loop .inv .0, (omega arith, (simp length-set (p .loop .inv .1 .1 .0), sym (stored-more inData (p .loop .next) (a .at) (now (a .row)) (p .loop .i) (omega arith)) ∙ p .loop .inv .1 .1 .1)))
+    (p .loop .inv .0, (omega arith, (simp length-set (p .loop .inv .1 .1 .0), sym (stored-more dataZone (p .loop .next) (a .at) (now (a .row)) (p .loop .i) (omega arith)) ∙ p .loop .inv .1 .1 .1)))
 
 returns : tie.Need-returns Inv-loop μ-loop
 returns c =

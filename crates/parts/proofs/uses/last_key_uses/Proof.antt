@@ -1,4 +1,4 @@
--- At each turn the sum and the ones of the bytes left are the ones of all.
+-- At each turn the sum and the ones of the bytes left are the ones of all; a byte has at most eight.
 use Prim.Native.Nat.{_+_, _-_, _*_, _≤_}
 use mathlib.Core.Path.{_≡_}
 use native.Mathlib.Omega.{arith}
@@ -6,7 +6,7 @@ use native.Mathlib.Nat.{zero-add}
 use mir.Val.{Fits}
 use mir.Syntax.{w8}
 use lib.ListN.{length, getD, take, drop}
-use lib.Count.{ones-le}
+use lib.Count.{ones, ones-le}
 use Rattle.rules.specs.Words.{bytes}
 use Rattle.rules.specs.Uses.{onesOf}
 use Rattle.rules.proofs.Uses.{ones-more}
@@ -26,17 +26,17 @@ loop-holds c = (search needs, (search needs, (search needs, zero-add _)))
 array-read-sum : tie.Need-array-read-sum Inv-loop μ-loop
 array-read-sum c = omega arith
 
-cast-sum : tie.Need-cast-sum Inv-loop μ-loop
-cast-sum c =
+few-ones : (c : tie.In-loop Inv-loop μ-loop) → ones (getD (c .before .before .args .t1) (c .before .loop .i) 0) ≤ 8
+few-ones c =
     let x = getD (c .before .before .args .t1) (c .before .loop .i) 0 in
     let h : Fits w8 x = search needs in
-    omega (arith, ones-le 8 x (h .fits))
+    ones-le 8 x (h .fits)
+
+cast-sum : tie.Need-cast-sum Inv-loop μ-loop
+cast-sum c = omega (arith, few-ones c)
 
 add-sum : tie.Need-add-sum Inv-loop μ-loop
-add-sum c =
-    let x = getD (c .before .before .args .t1) (c .before .loop .i) 0 in
-    let h : Fits w8 x = search needs in
-    omega (arith, ones-le 8 x (h .fits))
+add-sum c = omega (arith, few-ones c)
 
 add-i : tie.Need-add-i Inv-loop μ-loop
 add-i c = omega arith
@@ -47,11 +47,9 @@ loop-less c = omega arith
 loop-again : tie.Need-loop-again Inv-loop μ-loop
 loop-again c =
     let t = c .before .before .args .t1 in
-    let i = c .before .loop .i in
     let n : length t ≡ 88 = search needs in
-    let h : Fits w8 (getD t i 0) = search needs in
-    let e = ones-more t i 84 (omega arith) (omega arith) in
-    (omega arith, (omega arith, (omega (arith, ones-le 8 (getD t i 0) (h .fits)), omega (arith, e))))
+    let e = ones-more t (c .before .loop .i) 84 (omega arith) (omega arith) in
+    (omega arith, (omega arith, (omega (arith, few-ones c), omega (arith, e))))
 
 returns : tie.Need-returns Inv-loop μ-loop
 unfolding onesOf

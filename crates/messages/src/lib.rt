@@ -113,6 +113,7 @@ fn serial_fields(m: [u8; 96], f: Fields, c: [u8; 88]) -> [u8; 96]
     add_if(on6, m8, 86, &c, 2, 2)
 }
 
+// MAC's digest.
 pub fn mac_digest(
     first: [u8; 32],
     second: [u8; 32],

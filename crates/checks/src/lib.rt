@@ -1,8 +1,10 @@
 // MAC and CheckMac.
 ghost use mathlib.Core.Path.{_≡_};
+ghost use mathlib.Core.Bool.{true};
+ghost use lib.ListN.{length};
 ghost use Rattle.rules.specs.Words.{equal};
 ghost use Rattle.rules.specs.Plan.{storeAll, reply, settle};
-ghost use Rattle.rules.specs.Mac.{macShape, macTempKey, macSlot, macFree, firstRow, secondRow, keySpent, mac};
+ghost use Rattle.rules.specs.Mac.{macShape, usesTempKey, drawsKey, sourceIsBit2, macTempKey, macSlot, macFree, firstRow, secondRow, keySpent, macDigest, mac};
 ghost use Rattle.rules.specs.CheckMac.{checkMacShape, checkMacTempKey, checkMacSlot, checkMacFree, checkMacDigest, response, copyTarget, copyHolds, checkMacKey, checkMacStatus, checkMac};
 use parts::config;
 use parts::replies;
@@ -15,70 +17,24 @@ use rules::Slot;
 use rules::Status;
 use rules::TempKey;
 
-fn mac_shape(f: Fields, input: &[u8]) -> bool
-    ensures { λ r. ⌜ r ≡ macShape f (now (input .entry)) ⌝ }
+// ---- what both commands ask and do
+
+fn uses_temp_key(f: Fields) -> bool
+    ensures { λ r. ⌜ r ≡ usesTempKey f ⌝ }
 {
-    if config::only_bits(0x77, f.param1) {
-        if f.param1 / 1 % 2 == 1 {
-            input.len() == 0
-        } else {
-            input.len() == 32
-        }
-    } else {
-        false
-    }
+    (f.param1 % 2 == 1) | (f.param1 / 2 % 2 == 1)
 }
 
-// Whether a flag equals bit 2 of Param1.
-fn is_bit2(flag: bool, f: Fields) -> bool {
-    if f.param1 / 4 % 2 == 1 { flag } else { !flag }
+fn draws_key(f: Fields) -> bool
+    ensures { λ r. ⌜ r ≡ drawsKey f ⌝ }
+{
+    f.param1 / 2 % 2 != 1
 }
 
-fn mac_temp_key(t: TempKey, f: Fields) -> bool
-    ensures { λ r. ⌜ r ≡ macTempKey t f ⌝ }
+fn source_is_bit2(t: TempKey, f: Fields) -> bool
+    ensures { λ r. ⌜ r ≡ sourceIsBit2 t f ⌝ }
 {
-    if f.param1 % 4 == 0 {
-        return true;
-    }
-    if t.valid {
-        if t.checkFlag {
-            false
-        } else {
-            is_bit2(t.sourceFlag, f)
-        }
-    } else {
-        false
-    }
-}
-
-fn mac_slot(c: [u8; 88], f: Fields) -> bool
-    ensures { λ r. ⌜ r ≡ macSlot c f ⌝ }
-{
-    if f.param1 / 2 % 2 == 1 {
-        return true;
-    }
-    let k = config::key_of(f);
-    if config::slot_bit(4, c, k) {
-        false
-    } else {
-        uses::use_left(c, k)
-    }
-}
-
-fn mac_free(d: Device, f: Fields) -> bool
-    ensures { λ r. ⌜ r ≡ macFree d f ⌝ }
-{
-    let c = d.config;
-    let t = d.tempKey;
-    if config::both_locked(c) {
-        if mac_temp_key(t, f) {
-            mac_slot(c, f)
-        } else {
-            false
-        }
-    } else {
-        false
-    }
+    t.sourceFlag == (f.param1 / 4 % 2 == 1)
 }
 
 // The first 32 bytes of the message: TempKey or the slot.
@@ -97,7 +53,7 @@ fn first_row(d: Device, f: Fields) -> [u8; 32]
 fn second_row(d: Device, f: Fields, sent: [u8; 32]) -> [u8; 32]
     ensures { λ r. ⌜ r ≡ secondRow d f sent ⌝ }
 {
-    if f.param1 / 1 % 2 == 1 {
+    if f.param1 % 2 == 1 {
         let t = d.tempKey;
         t.bytes
     } else {
@@ -109,11 +65,64 @@ fn second_row(d: Device, f: Fields, sent: [u8; 32]) -> [u8; 32]
 fn key_spent(d: Device, f: Fields) -> Device
     ensures { λ r. ⌜ r ≡ storeAll d (keySpent (d .config) f) ⌝ }
 {
-    if f.param1 / 2 % 2 == 1 {
-        d
-    } else {
+    if draws_key(f) {
         uses::spend_use(d, config::key_of(f))
+    } else {
+        d
     }
+}
+
+// ---- MAC
+
+fn mac_shape(f: Fields, input: &[u8]) -> bool
+    ensures { λ r. ⌜ r ≡ macShape f (now (input .entry)) ⌝ }
+{
+    let named = config::only_bits(0x77, f.param1);
+    if f.param1 % 2 == 1 {
+        named & (input.len() == 0)
+    } else {
+        named & (input.len() == 32)
+    }
+}
+
+fn mac_temp_key(t: TempKey, f: Fields) -> bool
+    ensures { λ r. ⌜ r ≡ macTempKey t f ⌝ }
+{
+    if uses_temp_key(f) {
+        t.valid & !t.checkFlag & source_is_bit2(t, f)
+    } else {
+        true
+    }
+}
+
+fn mac_slot(c: [u8; 88], f: Fields) -> bool
+    ensures { λ r. ⌜ r ≡ macSlot c f ⌝ }
+{
+    let k = config::key_of(f);
+    if draws_key(f) {
+        !config::slot_bit(4, c, k) & uses::use_left(c, k)
+    } else {
+        true
+    }
+}
+
+fn mac_free(d: Device, f: Fields) -> bool
+    ensures { λ r. ⌜ r ≡ macFree d f ⌝ }
+{
+    let c = d.config;
+    let t = d.tempKey;
+    config::both_locked(c) & mac_temp_key(t, f) & mac_slot(c, f)
+}
+
+fn mac_digest(d: Device, f: Fields, input: &[u8]) -> [u8; 32]
+    requires { ⌜ macShape f (now input) ≡ true ⌝ }
+    ensures { λ r. ⌜ r ≡ macDigest d f (now (input .entry)) ⌝ }
+{
+    let first = first_row(d, f);
+    let second = second_row(d, f, rows::row_of(input, 0, 32));
+    let otp = d.otp;
+    let c = d.config;
+    messages::mac_digest(first, second, f, otp, c)
 }
 
 pub fn mac(d: Device, f: Fields, input: &[u8]) -> Reply
@@ -121,13 +130,8 @@ pub fn mac(d: Device, f: Fields, input: &[u8]) -> Reply
 {
     if mac_shape(f, input) {
         if mac_free(d, f) {
-            let first = first_row(d, f);
-            let second = second_row(d, f, rows::row_of(input, 0, 32));
-            let otp = d.otp;
-            let c = d.config;
-            let answer = messages::mac_digest(first, second, f, otp, c);
-            let s = key_spent(d, f);
-            replies::ended(s, 32, answer)
+            let answer = mac_digest(d, f, input);
+            replies::ended(key_spent(d, f), 32, answer)
         } else {
             replies::said(d, Status::Refused)
         }
@@ -136,36 +140,31 @@ pub fn mac(d: Device, f: Fields, input: &[u8]) -> Reply
     }
 }
 
+// ---- CheckMac
+
 fn check_mac_shape(f: Fields, input: &[u8]) -> bool
     ensures { λ r. ⌜ r ≡ checkMacShape f (now (input .entry)) ⌝ }
 {
-    if config::only_bits(0x27, f.param1) {
-        input.len() == 77
-    } else {
-        false
-    }
+    config::only_bits(0x27, f.param1) & (input.len() == 77)
 }
 
 fn check_mac_temp_key(t: TempKey, f: Fields) -> bool
     ensures { λ r. ⌜ r ≡ checkMacTempKey t f ⌝ }
 {
-    if f.param1 % 4 == 0 {
-        return true;
-    }
-    if t.valid {
-        is_bit2(t.sourceFlag, f)
+    if uses_temp_key(f) {
+        t.valid & source_is_bit2(t, f)
     } else {
-        false
+        true
     }
 }
 
 fn check_mac_slot(c: [u8; 88], f: Fields) -> bool
     ensures { λ r. ⌜ r ≡ checkMacSlot c f ⌝ }
 {
-    if f.param1 / 2 % 2 == 1 {
-        true
-    } else {
+    if draws_key(f) {
         uses::use_left(c, config::key_of(f))
+    } else {
+        true
     }
 }
 
@@ -174,15 +173,19 @@ fn check_mac_free(d: Device, f: Fields) -> bool
 {
     let c = d.config;
     let t = d.tempKey;
-    if config::both_locked(c) {
-        if check_mac_temp_key(t, f) {
-            check_mac_slot(c, f)
-        } else {
-            false
-        }
-    } else {
-        false
-    }
+    config::both_locked(c) & check_mac_temp_key(t, f) & check_mac_slot(c, f)
+}
+
+fn check_mac_digest(d: Device, f: Fields, input: &[u8]) -> [u8; 32]
+    requires { ⌜ length (now input) ≡ 77 ⌝ }
+    ensures { λ r. ⌜ r ≡ checkMacDigest d f (now (input .entry)) ⌝ }
+{
+    let first = first_row(d, f);
+    let second = second_row(d, f, rows::row_of(input, 0, 32));
+    let other = rows::row_of(input, 64, 13);
+    let otp = d.otp;
+    let c = d.config;
+    messages::check_mac_digest(first, second, f, other, otp, c)
 }
 
 // Whether the digest equals the response.
@@ -190,12 +193,7 @@ fn check_mac_equal(d: Device, f: Fields, input: &[u8]) -> bool
     requires { ⌜ length (now input) ≡ 77 ⌝ }
     ensures { λ r. ⌜ r ≡ equal (checkMacDigest d f (now (input .entry))) (response (now (input .entry))) ⌝ }
 {
-    let first = first_row(d, f);
-    let second = second_row(d, f, rows::row_of(input, 0, 32));
-    let other = rows::row_of(input, 64, 13);
-    let otp = d.otp;
-    let c = d.config;
-    let digest = messages::check_mac_digest(first, second, f, other, otp, c);
+    let digest = check_mac_digest(d, f, input);
     rows::equal_rows(&digest, &input[32..64])
 }
 
@@ -209,17 +207,9 @@ fn copy_holds(c: [u8; 88], f: Fields) -> bool
     ensures { λ r. ⌜ r ≡ copyHolds c f ⌝ }
 {
     let k = copy_target(f);
-    match f.param1 {
-        0x01 | 0x05 => {
-            let by = config::read_key(c, k);
-            if by.0 == 0 {
-                is_bit2(config::check_mac_bit(c, k), f)
-            } else {
-                false
-            }
-        }
-        _ => false,
-    }
+    let by = config::read_key(c, k);
+    let copies = (f.param1 == 0x01) | (f.param1 == 0x05);
+    copies & (by.0 == 0) & (config::check_mac_bit(c, k) == (f.param1 / 4 % 2 == 1))
 }
 
 // TempKey after a CheckMac: the target where it copies, else empty.
@@ -227,12 +217,11 @@ fn check_mac_key(d: Device, f: Fields, same: bool) -> TempKey
     ensures { λ r. ⌜ r ≡ checkMacKey d f same ⌝ }
 {
     let c = d.config;
-    if same {
-        if copy_holds(c, f) {
-            return replies::taken_key(rows::slot_bytes(d, copy_target(f)), true);
-        }
+    if same & copy_holds(c, f) {
+        replies::taken_key(rows::slot_bytes(d, copy_target(f)), true)
+    } else {
+        replies::emptied_key()
     }
-    replies::emptied_key()
 }
 
 fn check_mac_status(same: bool) -> Status

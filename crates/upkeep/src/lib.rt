@@ -1,7 +1,12 @@
 // Lock, UpdateExtra and DevRev.
 ghost use mathlib.Core.Path.{_≡_};
-ghost use Rattle.rules.specs.Plan.{reply, settle};
-ghost use Rattle.rules.specs.Upkeep.{lockShape, summary, zoneOpen, lockFree, lock, updateExtraShape, updateExtraFree, updateExtra, devRevShape, devRev};
+ghost use mathlib.Core.Bool.{_||_};
+ghost use Prim.Native.Nat.{_%_};
+ghost use Rattle.wire.specs.Wire.{if_then_else_};
+ghost use Rattle.rules.specs.Words.{_is_};
+ghost use Rattle.rules.specs.State.{userExtraAt, selectorAt, lockValueAt, lockConfigAt};
+ghost use Rattle.rules.specs.Plan.{inConfig, store, reply, settle};
+ghost use Rattle.rules.specs.Upkeep.{ofValues, skipsSummary, lockShape, summary, zoneOpen, lock, updateExtraShape, updateExtraFree, updateExtra, devRevShape, devRev};
 use parts::config;
 use parts::replies;
 use parts::rows;
@@ -58,23 +63,21 @@ fn zone_open(c: [u8; 88], f: Fields) -> bool
     }
 }
 
-fn lock_free(d: Device, f: Fields) -> bool
-    ensures { λ r. ⌜ r ≡ lockFree d f ⌝ }
+// With bit 7 clear Param2 is the check value.
+fn summary_right(d: Device, f: Fields) -> bool
+    ensures { λ r. ⌜ r ≡ (skipsSummary f || summary d f is f .param2) ⌝ }
 {
-    let c = d.config;
-    if zone_open(c, f) {
-        if f.param1 / 128 % 2 == 1 {
-            true
-        } else {
-            summary_of(d, f) == f.param2
-        }
+    if f.param1 / 128 % 2 == 1 {
+        true
     } else {
-        false
+        summary_of(d, f) == f.param2
     }
 }
 
 // The lock byte becomes 00.
-fn locked(d: Device, f: Fields) -> Device {
+fn locked(d: Device, f: Fields) -> Device
+    ensures { λ r. ⌜ r ≡ store d (inConfig (if ofValues f then lockValueAt else lockConfigAt) 0x00) ⌝ }
+{
     if f.param1 / 1 % 2 == 1 {
         stores::store_config(d, 86, 0x00)
     } else {
@@ -85,9 +88,16 @@ fn locked(d: Device, f: Fields) -> Device {
 pub fn lock(d: Device, f: Fields, input: &[u8]) -> Reply
     ensures { λ r. ⌜ r ≡ reply (settle (lock d f (now (input .entry)))) d ⌝ }
 {
+    let c = d.config;
     if lock_shape(f, input) {
-        if lock_free(d, f) {
-            replies::said(locked(d, f), Status::Done)
+        if zone_open(c, f) {
+            // The summary is that of the zone before its lock byte is stored.
+            let after = locked(d, f);
+            if summary_right(d, f) {
+                replies::said(after, Status::Done)
+            } else {
+                replies::said(d, Status::Refused)
+            }
         } else {
             replies::said(d, Status::Refused)
         }
@@ -118,7 +128,9 @@ fn update_extra_free(c: [u8; 88], f: Fields) -> bool
 }
 
 // UserExtra or Selector becomes the low byte of Param2.
-fn updated(d: Device, f: Fields) -> Device {
+fn updated(d: Device, f: Fields) -> Device
+    ensures { λ r. ⌜ r ≡ store d (inConfig (if f .param1 is 1 then selectorAt else userExtraAt) (f .param2 % 256)) ⌝ }
+{
     let b = (f.param2 % 256) as u8;
     if f.param1 == 1 {
         stores::store_config(d, 85, b)

@@ -1,13 +1,12 @@
 -- What was sent, as the shape of Nonce and GenDig leaves it: how long it is, and the rows that the code hands on.
-use Prim.Native.Nat.{ℕ, _+_, _*_, _≤_, _<_}
-use mathlib.Core.Path.{_≡_, refl, _∙_}
-use mathlib.Core.Bool.{Bool, true, false, _&&_, _||_}
+use Prim.Native.Nat.{ℕ, _*_, _≤_}
+use mathlib.Core.Path.{_≡_, _∙_}
+use mathlib.Core.Bool.{true, _&&_, _||_}
 use mathlib.Core.List.{List, [], _∷_, _++_}
 use native.Mathlib.Omega.{arith}
 use lib.ListN.{length, getD, take, drop, drop-of-length-le}
 use lib.Seq.{take-all, take-at, take-take, drop-cons}
 use borrow.Author.Tests.{eq-eqb, ne-eqb, ltb-true, eqb-true}
-use Rattle.wire.specs.Wire.{if_then_else_}
 use Rattle.rules.specs.declared.Fields.{Fields}
 use Rattle.rules.specs.Words.{_is_, _under_, zeros}
 use Rattle.rules.specs.Nonce.{nonceShape}
@@ -21,13 +20,13 @@ use Rattle.parts.proofs.Row.{row-whole}
 pub nonce-32 : (f : Fields) (input : List ℕ) → nonceShape f input ≡ true → f .param1 ≡ 3 → length input ≡ 32
 unfolding nonceShape
 nonce-32 f input h e =
-    eqb-true (length input) 32 (and-left (length input is 32) (f .param2 is 0) (rw (eq-eqb (f .param1) 3 e) at h))
+    eqb-true (length input) 32 (and-left _ _ (rw (eq-eqb (f .param1) 3 e) at h))
 
 pub nonce-20 : (f : Fields) (input : List ℕ) → nonceShape f input ≡ true → (f .param1 ≡ 3 → ⊥) → length input ≡ 20
 unfolding nonceShape
 nonce-20 f input h n =
-    let both = and-left (f .param1 under 2 && length input is 20) (f .param2 is 0) (rw (ne-eqb (f .param1) 3 n) at h) in
-    eqb-true (length input) 20 (and-right (f .param1 under 2) (length input is 20) both)
+    let both = and-left (f .param1 under 2 && length input is 20) _ (rw (ne-eqb (f .param1) 3 n) at h) in
+    eqb-true (length input) 20 (and-right (f .param1 under 2) _ both)
 
 -- the first bytes of the row are what was sent
 pub front-sent : (input : List ℕ) (n : ℕ) → length input ≡ n → n ≤ 32 → take n (row input 0 32) ≡ input
@@ -39,20 +38,15 @@ front-sent input n l h =
 pub row-sent : (input : List ℕ) → length input ≡ 32 → row input 0 32 ≡ input
 row-sent input l = row-whole input 0 (omega arith) ∙ take-all 32 input (omega arith)
 
--- ---- GenDig: a value that is not a slot is one of two blocks; 4 bytes stand for the header
-pub block-under : (f : Fields) → (fromData f || (f .param1 under 2 && f .param2 under 2)) ≡ true → (f .param1 ≡ 2 → ⊥) → (f .param1 < 2) × (f .param2 < 2)
-block-under f h n =
-    let both : (f .param1 under 2 && f .param2 under 2) ≡ true = rw (ne-eqb (f .param1) 2 n) at h in
-    (ltb-true (f .param1) 2 (and-left (f .param1 under 2) (f .param2 under 2) both),
-    ltb-true (f .param2) 2 (and-right (f .param1 under 2) (f .param2 under 2) both))
+-- ---- GenDig: a block of configuration or OTP, 0 or 1, stands whole in its zone
+pub block-there : (zone : List ℕ) (block : ℕ) → 64 ≤ length zone → (block under 2) ≡ true → row zone (32 * block) 32 ≡ take 32 (drop (32 * block) zone)
+block-there zone block h e = row-whole zone (32 * block) (omega (arith, ltb-true block 2 e))
 
+-- the 4 bytes that replace the 4 header bytes
 pub header-4 : (config : List ℕ) (f : Fields) (input : List ℕ) → genDigShape config f input ≡ true → checkOnlyKey config f ≡ true → length input ≡ 4
 unfolding genDigShape
 header-4 config f input h e =
-    let k : (length input is (if checkOnlyKey config f then 4 else 0)) ≡ true =
-    and-right (fromData f || (f .param1 under 2 && f .param2 under 2)) (length input is (if checkOnlyKey config f then 4 else 0)) h
-    in
-    eqb-true (length input) 4 (rw e at k)
+    eqb-true (length input) 4 (and-right (fromData f || (f .param1 under 2 && f .param2 under 2)) _ (rw e at h))
 
 pub four : (l : List ℕ) → length l ≡ 4 → (getD l 0 0 ∷ getD l 1 0 ∷ getD l 2 0 ∷ getD l 3 0 ∷ []) ≡ l
 four l h =

@@ -1,9 +1,10 @@
 // DeriveKey.
 ghost use mathlib.Core.Path.{_≡_};
-ghost use lib.ListN.{length};
 ghost use mathlib.Core.List.{[]};
+ghost use lib.ListN.{length};
 ghost use Rattle.wire.specs.Wire.{if_then_else_};
 ghost use Rattle.rules.specs.Words.{_⇒_, _iff_, _is_, equal};
+ghost use Rattle.rules.specs.State.{key, writeConfigBit};
 ghost use Rattle.rules.specs.Uses.{spend};
 ghost use Rattle.rules.specs.Plan.{storeAll, reply, settle};
 ghost use Rattle.rules.specs.DeriveKey.{deriveKeyShape, parent, fromParent, asksMac, source, parentDrawn, deriveKeyTempKey, deriveKeySlots, deriveKeyFree, deriveKeyMac, newTarget, refilled, deriveKeyStores, deriveKey};
@@ -25,22 +26,30 @@ fn derive_shape(f: Fields, input: &[u8]) -> bool
     config::only_bits(0x04, f.param1) & ((input.len() == 0) | (input.len() == 32))
 }
 
-fn parent_of(c: [u8; 88], f: Fields) -> Slot
-    ensures { λ r. ⌜ r ≡ parent c f ⌝ }
+// Bit n of the target's SlotConfig; the target is the key.
+fn target_bit(n: u16, c: [u8; 88], f: Fields) -> bool
+    ensures { λ r. ⌜ r ≡ writeConfigBit n c (key f) ⌝ }
 {
-    config::write_key(c, config::key_of(f))
+    config::slot_bit(n, c, config::key_of(f))
 }
 
 fn from_parent(c: [u8; 88], f: Fields) -> bool
     ensures { λ r. ⌜ r ≡ fromParent c f ⌝ }
 {
-    config::slot_bit(12, c, config::key_of(f))
+    target_bit(12, c, f)
 }
 
 fn asks_mac(c: [u8; 88], f: Fields) -> bool
     ensures { λ r. ⌜ r ≡ asksMac c f ⌝ }
 {
-    config::slot_bit(15, c, config::key_of(f))
+    target_bit(15, c, f)
+}
+
+// The parent is the target's WriteKey.
+fn parent_of(c: [u8; 88], f: Fields) -> Slot
+    ensures { λ r. ⌜ r ≡ parent c f ⌝ }
+{
+    config::write_key(c, config::key_of(f))
 }
 
 fn parent_drawn(c: [u8; 88], f: Fields) -> bool
@@ -49,6 +58,7 @@ fn parent_drawn(c: [u8; 88], f: Fields) -> bool
     from_parent(c, f) | asks_mac(c, f)
 }
 
+// Source is the parent if bit 12, else the target.
 fn source_of(c: [u8; 88], f: Fields) -> Slot
     ensures { λ r. ⌜ r ≡ source c f ⌝ }
 {
@@ -59,6 +69,7 @@ fn source_of(c: [u8; 88], f: Fields) -> Slot
     }
 }
 
+// Valid, GenData 0, CheckFlag 0, SourceFlag = bit 2.
 fn derive_temp_key(t: TempKey, f: Fields) -> bool
     ensures { λ r. ⌜ r ≡ deriveKeyTempKey t f ⌝ }
 {
@@ -92,7 +103,7 @@ fn derive_free(d: Device, f: Fields, input: &[u8]) -> bool
     let c = d.config;
     let t = d.tempKey;
     config::both_locked(c)
-        & config::slot_bit(13, c, config::key_of(f))
+        & target_bit(13, c, f)
         & derive_temp_key(t, f)
         & mac_present(c, f, input)
         & derive_slots(c, f)
@@ -150,7 +161,7 @@ fn parent_spent(d: Device, f: Fields) -> Device
     }
 }
 
-// The parent's use, then the new target, then the refill.
+// The parent's use, then the new target, then the refill, each of what the device held before the command.
 fn derive_stores(d: Device, f: Fields) -> Device
     ensures { λ r. ⌜ r ≡ storeAll d (deriveKeyStores d f) ⌝ }
 {

@@ -29,7 +29,7 @@ fn check_only_key(c: [u8; 88], f: Fields) -> bool
 fn names_value(f: Fields) -> bool
     ensures { λ r. ⌜ r ≡ (fromData f || (f .param1 under 2 && f .param2 under 2)) ⌝ }
 {
-    (f.param1 == 2) | (f.param1 < 2) & (f.param2 < 2)
+    (f.param1 == 2) | ((f.param1 < 2) & (f.param2 < 2))
 }
 
 fn gen_dig_shape(c: [u8; 88], f: Fields, input: &[u8]) -> bool
@@ -60,14 +60,12 @@ fn gen_dig_value(d: Device, f: Fields) -> [u8; 32]
     requires { ⌜ (fromData f || (f .param1 under 2 && f .param2 under 2)) ≡ true ⌝ }
     ensures { λ r. ⌜ r ≡ genDigValue d f ⌝ }
 {
-    if f.param1 == 2 {
-        return rows::slot_bytes(d, config::key_of(f));
-    }
+    let zone = f.param1;
     let at = 32 * (f.param2 as usize);
-    if f.param1 == 0 {
-        rows::row_of(&d.config, at, 32)
-    } else {
-        rows::row_of(&d.otp, at, 32)
+    match zone {
+        0 => rows::row_of(&d.config, at, 32),
+        1 => rows::row_of(&d.otp, at, 32),
+        _ => rows::slot_bytes(d, config::key_of(f)),
     }
 }
 

@@ -7,11 +7,8 @@ use Rattle.keys.proofs.derive.derive_free.Tie as tie
 both-locked-requires : tie.Need-both-locked-requires
 both-locked-requires c κs = search needs
 
-key-of-requires : tie.Need-key-of-requires
-key-of-requires c κs = search needs
-
-slot-bit-requires : tie.Need-slot-bit-requires
-slot-bit-requires c κs = search needs
+target-bit-requires : tie.Need-target-bit-requires
+target-bit-requires c κs = search needs
 
 derive-temp-key-requires : tie.Need-derive-temp-key-requires
 derive-temp-key-requires c κs = search needs
@@ -25,16 +22,15 @@ derive-slots-requires c κs = search needs
 returns : tie.Need-returns
 unfolding deriveKeyFree
 returns c =
-    let p = c .before .before .before in
-    rw (c .derive-slots .ensures, c .before .mac-present .ensures, c .before .before .derive-temp-key .ensures, p .slot-bit .ensures, p .before .key-of .ensures, p .before .before .both-locked .ensures)
+    let p = c .before .before in
+    rw (c .derive-slots .ensures, c .before .mac-present .ensures, p .derive-temp-key .ensures, p .before .target-bit .ensures, p .before .before .both-locked .ensures)
 
 pub derive-free-spec : {M : Type 1} → statement M
 derive-free-spec =
     tie.close
     (tie.spec
     both-locked-requires
-    key-of-requires
-    slot-bit-requires
+    target-bit-requires
     derive-temp-key-requires
     mac-present-requires
     derive-slots-requires

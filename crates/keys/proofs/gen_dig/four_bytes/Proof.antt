@@ -1,4 +1,4 @@
--- All of the four bytes.
+-- A list of four is its four elements.
 use denote.Ref.{now}
 use Rattle.keys.proofs.Sent.{four}
 use borrow.Author.Needs.{needs}
@@ -18,7 +18,9 @@ shared-slice-read-t9 : tie.Need-shared-slice-read-t9
 shared-slice-read-t9 c = search needs
 
 returns : tie.Need-returns
-returns c = four (now (c .before .before .before .before .args .s)) (c .before .before .before .before .pre)
+returns c =
+    let p = c .before .before .before .before in
+    four (now (p .args .s)) (p .pre)
 
 pub four-bytes-spec : {M : Type 1} → statement M
 four-bytes-spec =

@@ -7,9 +7,7 @@ use Rattle.keys.proofs.gen_dig.gen_dig_key.Tie as tie
 
 gen-dig-value-requires : tie.Need-gen-dig-value-requires
 unfolding genDigShape
-gen-dig-value-requires c κs =
-    let p = c .before .before .before .before in
-    and-left _ _ (p .pre)
+gen-dig-value-requires c κs = and-left _ _ (c .before .before .before .before .pre)
 
 gen-dig-header-requires : tie.Need-gen-dig-header-requires
 gen-dig-header-requires c κs = search needs

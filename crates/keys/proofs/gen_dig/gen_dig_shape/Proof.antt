@@ -1,5 +1,4 @@
 -- The tests are those of the rule.
-use mathlib.Core.Path.{sym, _∙_}
 use Rattle.rules.specs.GenDig.{genDigShape}
 use borrow.Author.Needs.{needs}
 use Rattle.keys.proofs.gen_dig.gen_dig_shape.Statement.{statement}

@@ -3,11 +3,9 @@ use mathlib.Core.Path.{_≡_, sym, _∙_}
 use mathlib.Core.List.{append-nil}
 use native.Mathlib.Omega.{arith}
 use denote.Ref.{now}
-use lib.ListN.{length, take}
-use lib.Seq.{take-all}
+use lib.ListN.{length}
 use borrow.Author.Tests.{eq-eqb, ne-eqb}
 use Rattle.rules.specs.Nonce.{nonceInput, nonceRandom, nonce}
-use Rattle.parts.specs.Row.{row}
 use Rattle.keys.proofs.Sent.{nonce-32, nonce-20, front-sent, row-sent}
 use borrow.Author.Needs.{needs}
 use Rattle.keys.proofs.nonce.nonce.Statement.{statement}

@@ -1,7 +1,7 @@
--- The bit is that of the rule.
+-- The target is the key.
 use borrow.Author.Needs.{needs}
-use Rattle.keys.proofs.derive.asks_mac.Statement.{statement}
-use Rattle.keys.proofs.derive.asks_mac.Tie as tie
+use Rattle.keys.proofs.derive.target_bit.Statement.{statement}
+use Rattle.keys.proofs.derive.target_bit.Tie as tie
 
 key-of-requires : tie.Need-key-of-requires
 key-of-requires c κs = search needs
@@ -12,5 +12,5 @@ slot-bit-requires c κs = search needs
 returns : tie.Need-returns
 returns c = rw (c .slot-bit .ensures, c .before .key-of .ensures)
 
-pub asks-mac-spec : {M : Type 1} → statement M
-asks-mac-spec = tie.close (tie.spec key-of-requires slot-bit-requires returns)
+pub target-bit-spec : {M : Type 1} → statement M
+target-bit-spec = tie.close (tie.spec key-of-requires slot-bit-requires returns)

@@ -1,9 +1,10 @@
 // DeriveKey.
 ghost use mathlib.Core.Path.{_≡_};
-ghost use lib.ListN.{length};
 ghost use mathlib.Core.List.{[]};
+ghost use lib.ListN.{length};
 ghost use Rattle.wire.specs.Wire.{if_then_else_};
 ghost use Rattle.rules.specs.Words.{_⇒_, _iff_, _is_, equal};
+ghost use Rattle.rules.specs.State.{key, writeConfigBit};
 ghost use Rattle.rules.specs.Uses.{spend};
 ghost use Rattle.rules.specs.Plan.{storeAll, reply, settle};
 ghost use Rattle.rules.specs.DeriveKey.{deriveKeyShape, parent, fromParent, asksMac, source, parentDrawn, deriveKeyTempKey, deriveKeySlots, deriveKeyFree, deriveKeyMac, newTarget, refilled, deriveKeyStores, deriveKey};
@@ -22,45 +23,42 @@ use rules::TempKey;
 fn derive_shape(f: Fields, input: &[u8]) -> bool
     ensures { λ r. ⌜ r ≡ deriveKeyShape f (now (input .entry)) ⌝ }
 {
-    if config::only_bits(0x04, f.param1) {
-        if input.len() == 0 {
-            true
-        } else {
-            input.len() == 32
-        }
-    } else {
-        false
-    }
+    config::only_bits(0x04, f.param1) & ((input.len() == 0) | (input.len() == 32))
 }
 
+// Bit n of the target's SlotConfig; the target is the key.
+fn target_bit(n: u16, c: [u8; 88], f: Fields) -> bool
+    ensures { λ r. ⌜ r ≡ writeConfigBit n c (key f) ⌝ }
+{
+    config::slot_bit(n, c, config::key_of(f))
+}
+
+fn from_parent(c: [u8; 88], f: Fields) -> bool
+    ensures { λ r. ⌜ r ≡ fromParent c f ⌝ }
+{
+    target_bit(12, c, f)
+}
+
+fn asks_mac(c: [u8; 88], f: Fields) -> bool
+    ensures { λ r. ⌜ r ≡ asksMac c f ⌝ }
+{
+    target_bit(15, c, f)
+}
+
+// The parent is the target's WriteKey.
 fn parent_of(c: [u8; 88], f: Fields) -> Slot
     ensures { λ r. ⌜ r ≡ parent c f ⌝ }
 {
     config::write_key(c, config::key_of(f))
 }
 
-fn from_parent(c: [u8; 88], f: Fields) -> bool
-    ensures { λ r. ⌜ r ≡ fromParent c f ⌝ }
-{
-    config::slot_bit(12, c, config::key_of(f))
-}
-
-fn asks_mac(c: [u8; 88], f: Fields) -> bool
-    ensures { λ r. ⌜ r ≡ asksMac c f ⌝ }
-{
-    config::slot_bit(15, c, config::key_of(f))
-}
-
 fn parent_drawn(c: [u8; 88], f: Fields) -> bool
     ensures { λ r. ⌜ r ≡ parentDrawn c f ⌝ }
 {
-    if from_parent(c, f) {
-        true
-    } else {
-        asks_mac(c, f)
-    }
+    from_parent(c, f) | asks_mac(c, f)
 }
 
+// Source is the parent if bit 12, else the target.
 fn source_of(c: [u8; 88], f: Fields) -> Slot
     ensures { λ r. ⌜ r ≡ source c f ⌝ }
 {
@@ -71,41 +69,24 @@ fn source_of(c: [u8; 88], f: Fields) -> Slot
     }
 }
 
+// Valid, GenData 0, CheckFlag 0, SourceFlag = bit 2.
 fn derive_temp_key(t: TempKey, f: Fields) -> bool
     ensures { λ r. ⌜ r ≡ deriveKeyTempKey t f ⌝ }
 {
-    if t.valid {
-        if t.genData {
-            return false;
-        }
-        if t.checkFlag {
-            return false;
-        }
-        if f.param1 / 4 % 2 == 1 {
-            t.sourceFlag
-        } else {
-            !t.sourceFlag
-        }
-    } else {
-        false
-    }
+    let bit2 = f.param1 / 4 % 2 == 1;
+    t.valid & !t.genData & !t.checkFlag & (t.sourceFlag == bit2)
 }
 
+// Drawn slots: CheckOnly 0; the parent, if drawn, has a use left.
 fn derive_slots(c: [u8; 88], f: Fields) -> bool
     ensures { λ r. ⌜ r ≡ deriveKeySlots c f ⌝ }
 {
-    if config::slot_bit(4, c, source_of(c, f)) {
-        return false;
-    }
+    let p = parent_of(c, f);
+    let source_open = !config::slot_bit(4, c, source_of(c, f));
     if parent_drawn(c, f) {
-        let p = parent_of(c, f);
-        if config::slot_bit(4, c, p) {
-            false
-        } else {
-            uses::use_left(c, p)
-        }
+        source_open & (!config::slot_bit(4, c, p) & uses::use_left(c, p))
     } else {
-        true
+        source_open
     }
 }
 
@@ -113,11 +94,7 @@ fn derive_slots(c: [u8; 88], f: Fields) -> bool
 fn mac_present(c: [u8; 88], f: Fields, input: &[u8]) -> bool
     ensures { λ r. ⌜ r ≡ (length (now (input .entry)) is 32 iff asksMac c f) ⌝ }
 {
-    if asks_mac(c, f) {
-        input.len() == 32
-    } else {
-        input.len() != 32
-    }
+    (input.len() == 32) == asks_mac(c, f)
 }
 
 fn derive_free(d: Device, f: Fields, input: &[u8]) -> bool
@@ -125,16 +102,11 @@ fn derive_free(d: Device, f: Fields, input: &[u8]) -> bool
 {
     let c = d.config;
     let t = d.tempKey;
-    if config::both_locked(c) {
-        if config::slot_bit(13, c, config::key_of(f)) {
-            if derive_temp_key(t, f) {
-                if mac_present(c, f, input) {
-                    return derive_slots(c, f);
-                }
-            }
-        }
-    }
-    false
+    config::both_locked(c)
+        & target_bit(13, c, f)
+        & derive_temp_key(t, f)
+        & mac_present(c, f, input)
+        & derive_slots(c, f)
 }
 
 // Whether the MAC, where one is asked for, is right.
@@ -164,15 +136,15 @@ fn new_target(d: Device, f: Fields) -> [u8; 32]
     )
 }
 
-// UseFlag FF and UpdateCount plus one, of slots 0-7; `c` is the configuration from before the command.
+// Slots 0-7: UseFlag FF, UpdateCount plus one, 255 going to 0; `c` is the configuration from before the command.
 fn refill(d: Device, c: [u8; 88], k: Slot) -> Device
     ensures { λ r. ⌜ r ≡ storeAll d (refilled c k) ⌝ }
 {
-    let i = k.0 % 16;
+    let i = (k.0 % 16) as usize;
     if i < 8 {
-        let at = 52 + 2 * (i as usize);
-        let s = stores::store_config(d, at, 0xFF);
-        stores::store_config(s, at + 1, std::num::wrapping_add_u8(c[at + 1], 1))
+        let count = std::num::wrapping_add_u8(c[53 + 2 * i], 1);
+        let s = stores::store_config(d, 52 + 2 * i, 0xFF);
+        stores::store_config(s, 53 + 2 * i, count)
     } else {
         d
     }
@@ -189,7 +161,7 @@ fn parent_spent(d: Device, f: Fields) -> Device
     }
 }
 
-// The parent's use, then the new target, then the refill.
+// The parent's use, then the new target, then the refill, each of what the device held before the command.
 fn derive_stores(d: Device, f: Fields) -> Device
     ensures { λ r. ⌜ r ≡ storeAll d (deriveKeyStores d f) ⌝ }
 {

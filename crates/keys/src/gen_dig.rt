@@ -1,6 +1,7 @@
 // GenDig.
 ghost use mathlib.Core.Path.{_≡_};
 ghost use mathlib.Core.Bool.{true, _&&_, _||_};
+ghost use lib.ListN.{length};
 ghost use Rattle.wire.specs.Wire.{if_then_else_};
 ghost use Rattle.rules.specs.Words.{_under_};
 ghost use Rattle.rules.specs.State.{key, slot};
@@ -17,38 +18,27 @@ use rules::Slot;
 use rules::Status;
 use rules::TempKey;
 
+// Param1 2 with a CheckOnly key.
 fn check_only_key(c: [u8; 88], f: Fields) -> bool
     ensures { λ r. ⌜ r ≡ checkOnlyKey c f ⌝ }
 {
-    if f.param1 == 2 {
-        config::slot_bit(4, c, config::key_of(f))
-    } else {
-        false
-    }
+    (f.param1 == 2) & config::slot_bit(4, c, config::key_of(f))
 }
 
 // Whether Param1 and Param2 name a value: a slot, or one of two blocks of configuration or OTP.
 fn names_value(f: Fields) -> bool
     ensures { λ r. ⌜ r ≡ (fromData f || (f .param1 under 2 && f .param2 under 2)) ⌝ }
 {
-    match f.param1 {
-        0 | 1 => f.param2 < 2,
-        2 => true,
-        _ => false,
-    }
+    (f.param1 == 2) | ((f.param1 < 2) & (f.param2 < 2))
 }
 
 fn gen_dig_shape(c: [u8; 88], f: Fields, input: &[u8]) -> bool
     ensures { λ r. ⌜ r ≡ genDigShape c f (now (input .entry)) ⌝ }
 {
-    if names_value(f) {
-        if check_only_key(c, f) {
-            input.len() == 4
-        } else {
-            input.len() == 0
-        }
+    if check_only_key(c, f) {
+        names_value(f) & (input.len() == 4)
     } else {
-        false
+        names_value(f) & (input.len() == 0)
     }
 }
 
@@ -57,46 +47,52 @@ fn gen_dig_free(d: Device, f: Fields) -> bool
 {
     let c = d.config;
     let t = d.tempKey;
-    if config::config_locked(c) {
-        if t.valid {
-            if f.param1 == 2 {
-                if f.param2 < 0x8000 {
-                    return uses::use_left(c, config::key_of(f));
-                }
-                return false;
-            }
-            return true;
-        }
+    let ready = config::config_locked(c) & t.valid;
+    if f.param1 == 2 {
+        ready & ((f.param2 < 0x8000) & uses::use_left(c, config::key_of(f)))
+    } else {
+        ready
     }
-    false
 }
 
+// Of configuration and OTP a block of 32 bytes, which is there under the shape.
 fn gen_dig_value(d: Device, f: Fields) -> [u8; 32]
+    requires { ⌜ (fromData f || (f .param1 under 2 && f .param2 under 2)) ≡ true ⌝ }
     ensures { λ r. ⌜ r ≡ genDigValue d f ⌝ }
 {
+    let zone = f.param1;
     let at = 32 * (f.param2 as usize);
-    match f.param1 {
-        0 => {
-            let z = d.config;
-            rows::row_of(&z, at, 32)
-        }
-        1 => {
-            let z = d.otp;
-            rows::row_of(&z, at, 32)
-        }
+    match zone {
+        0 => rows::row_of(&d.config, at, 32),
+        1 => rows::row_of(&d.otp, at, 32),
         _ => rows::slot_bytes(d, config::key_of(f)),
     }
 }
 
+fn four_bytes(s: &[u8]) -> [u8; 4]
+    requires { ⌜ length (now s) ≡ 4 ⌝ }
+    ensures { λ r. ⌜ r ≡ now (s .entry) ⌝ }
+{
+    [s[0], s[1], s[2], s[3]]
+}
+
+// The 4 bytes sent with a CheckOnly key replace the 4 header bytes.
 fn gen_dig_header(c: [u8; 88], f: Fields, input: &[u8]) -> [u8; 4]
     requires { ⌜ genDigShape c f (now input) ≡ true ⌝ }
     ensures { λ r. ⌜ r ≡ genDigHeader c f (now (input .entry)) ⌝ }
 {
     if check_only_key(c, f) {
-        [input[0], input[1], input[2], input[3]]
+        four_bytes(input)
     } else {
         messages::header_of(0x15, f)
     }
+}
+
+// Data with Param2 up to 15.
+fn key_named(f: Fields) -> bool
+    ensures { λ r. ⌜ r ≡ keyNamed f ⌝ }
+{
+    (f.param1 == 2) & (f.param2 <= 15)
 }
 
 fn gen_dig_slot(f: Fields) -> Slot
@@ -107,12 +103,6 @@ fn gen_dig_slot(f: Fields) -> Slot
     } else {
         Slot(0)
     }
-}
-
-fn key_named(f: Fields) -> bool
-    ensures { λ r. ⌜ r ≡ keyNamed f ⌝ }
-{
-    if f.param1 == 2 { f.param2 <= 15 } else { false }
 }
 
 fn gen_dig_key(d: Device, f: Fields, input: &[u8]) -> TempKey
@@ -128,15 +118,9 @@ fn gen_dig_key(d: Device, f: Fields, input: &[u8]) -> TempKey
         slotID: gen_dig_slot(f),
         sourceFlag: t.sourceFlag,
         genData: key_named(f),
-        checkFlag: either(check_only_key(c, f), t.checkFlag),
+        checkFlag: check_only_key(c, f) | t.checkFlag,
         valid: true,
     }
-}
-
-fn either(a: bool, b: bool) -> bool
-    ensures { λ r. ⌜ r ≡ (a || b) ⌝ }
-{
-    if a { true } else { b }
 }
 
 fn gen_dig_spent(d: Device, f: Fields) -> Device

@@ -1,6 +1,5 @@
 // Nonce and Random.
 ghost use mathlib.Core.Path.{_≡_};
-ghost use lib.ListN.{length};
 ghost use Rattle.rules.specs.Plan.{reply, settle};
 ghost use Rattle.rules.specs.Nonce.{usedRandom, nonceShape, nonce, randomShape, random};
 use parts::config;
@@ -11,61 +10,60 @@ use rules::Fields;
 use rules::Reply;
 use rules::Status;
 
-// With configuration unlocked FF FF 00 00 eight times.
-fn used_random(c: [u8; 88], random: [u8; 32]) -> [u8; 32]
-    ensures { λ r. ⌜ r ≡ usedRandom c random ⌝ }
+// FF FF 00 00 eight times.
+const UNLOCKED: [u8; 32] = [
+    0xFF,
+    0xFF,
+    0x00,
+    0x00,
+    0xFF,
+    0xFF,
+    0x00,
+    0x00,
+    0xFF,
+    0xFF,
+    0x00,
+    0x00,
+    0xFF,
+    0xFF,
+    0x00,
+    0x00,
+    0xFF,
+    0xFF,
+    0x00,
+    0x00,
+    0xFF,
+    0xFF,
+    0x00,
+    0x00,
+    0xFF,
+    0xFF,
+    0x00,
+    0x00,
+    0xFF,
+    0xFF,
+    0x00,
+    0x00,
+];
+
+// The supplied random counts only with configuration locked.
+fn used_random(c: [u8; 88], supplied: [u8; 32]) -> [u8; 32]
+    ensures { λ r. ⌜ r ≡ usedRandom c supplied ⌝ }
 {
     if config::config_locked(c) {
-        random
+        supplied
     } else {
-        [
-            0xFF,
-            0xFF,
-            0x00,
-            0x00,
-            0xFF,
-            0xFF,
-            0x00,
-            0x00,
-            0xFF,
-            0xFF,
-            0x00,
-            0x00,
-            0xFF,
-            0xFF,
-            0x00,
-            0x00,
-            0xFF,
-            0xFF,
-            0x00,
-            0x00,
-            0xFF,
-            0xFF,
-            0x00,
-            0x00,
-            0xFF,
-            0xFF,
-            0x00,
-            0x00,
-            0xFF,
-            0xFF,
-            0x00,
-            0x00,
-        ]
+        UNLOCKED
     }
 }
 
 fn nonce_shape(f: Fields, input: &[u8]) -> bool
     ensures { λ r. ⌜ r ≡ nonceShape f (now (input .entry)) ⌝ }
 {
-    if f.param2 == 0 {
-        match f.param1 {
-            3 => input.len() == 32,
-            0 | 1 => input.len() == 20,
-            _ => false,
-        }
+    if f.param1 == 3 {
+        (input.len() == 32) & (f.param2 == 0)
     } else {
-        false
+        (f.param1 < 2) & (input.len() == 20) & (f.param2 == 0)
     }
 }
 
@@ -95,12 +93,7 @@ pub fn nonce(d: Device, f: Fields, input: &[u8], random: [u8; 32]) -> Reply
 fn random_shape(f: Fields, input: &[u8]) -> bool
     ensures { λ r. ⌜ r ≡ randomShape f (now (input .entry)) ⌝ }
 {
-    if f.param1 < 2 {
-        if f.param2 == 0 {
-            return input.len() == 0;
-        }
-    }
-    false
+    (f.param1 < 2) & (f.param2 == 0) & (input.len() == 0)
 }
 
 pub fn random(d: Device, f: Fields, input: &[u8], supplied: [u8; 32]) -> Reply

@@ -1,8 +1,8 @@
--- Bytes stored one after the other, upwards in a zone: one byte at a time, and all at once.
+-- Bytes stored one after the other, upwards in a zone: one byte at a time, and all at once; stores behind others.
 use Prim.Native.Nat.{ℕ, _+_, _-_, min, _≤_, _<_}
 use mathlib.Core.Path.{_≡_, refl, sym, ap, _∙_}
 use mathlib.Core.Logic.{⊎-elim}
-use mathlib.Core.List.{List, [], _∷_}
+use mathlib.Core.List.{List, [], _∷_, _++_}
 use native.Mathlib.Omega.{arith}
 use native.Mathlib.Nat.{eq-or-lt-of-le}
 use native.Mathlib.Numerals.{add-one}
@@ -10,6 +10,11 @@ use lib.ListN.{length, getD, drop, set, drop-of-length-le}
 use lib.Seq.{drop-cons, set-out, sets}
 use Rattle.rules.specs.declared.Device.{Device}
 use Rattle.rules.specs.Plan.{Store, inConfig, inOtp, inData, store, storeAll, upwards}
+
+-- stores behind others are carried out on what the others leave
+pub stored-behind : (d : Device) (xs ys : List Store) → storeAll d (xs ++ ys) ≡ storeAll (storeAll d xs) ys
+stored-behind d [] ys = refl
+stored-behind d (x ∷ xs) ys = stored-behind (store d x) xs ys
 
 -- a zone: its store, its bytes, a device with other bytes in it, and that a store sets one byte of it
 pub record Zone : Type 0 where

@@ -26,6 +26,13 @@ pub fn slot_of(w: Word) -> Slot
     Slot((w.0 / 8 % 16) as u8)
 }
 
+// The slot that the fields' word belongs to.
+pub fn data_slot(f: Fields) -> Slot
+    ensures { λ r. ⌜ r ≡ slotOf (word f) ⌝ }
+{
+    slot_of(word_of(f))
+}
+
 pub fn address_fits(f: Fields) -> bool
     ensures { λ r. ⌜ r ≡ addressFits f ⌝ }
 {

@@ -1,4 +1,4 @@
 // Read and Write.
-pub mod address;
+mod address;
 pub mod read;
 pub mod write;

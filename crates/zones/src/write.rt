@@ -1,10 +1,16 @@
 // Write.
 ghost use mathlib.Core.Path.{_≡_};
-ghost use mathlib.Core.Bool.{true};
-ghost use lib.ListN.{length, take};
-ghost use Rattle.rules.specs.Words.{_iff_, equal, bytes};
-ghost use Rattle.rules.specs.Plan.{storeAll, reply, settle};
-ghost use Rattle.rules.specs.Address.{size};
+ghost use mathlib.Core.Bool.{true, not, _&&_, _||_};
+ghost use mathlib.Core.List.{[]};
+ghost use Prim.Native.Nat.{_+_, _≤_};
+ghost use lib.ListN.{length};
+ghost use Rattle.digest.specs.Sha256.{sha256};
+ghost use Rattle.wire.specs.Wire.{if_then_else_};
+ghost use Rattle.rules.specs.Words.{_iff_, bit, bytes, equal};
+ghost use Rattle.rules.specs.State.{isSecret, writeConfigBit};
+ghost use Rattle.rules.specs.Plan.{inOtp, upwards, storeAll, puts, refusedAfter, reply, settle};
+ghost use Rattle.rules.specs.Messages.{header, layout96};
+ghost use Rattle.rules.specs.Address.{size, addressFits, position};
 ghost use Rattle.rules.specs.Write.{hasMac, slotEncrypted, andRow, writeEffect, writeShape, configWriteFree, encrypted, unlockedWriteFree, slotWriteFree, lockedWriteFree, writeFree, plain, writeMac, otpWritten, written, write};
 use crate::address;
 use parts::config;
@@ -14,6 +20,7 @@ use parts::stores;
 use rules::Device;
 use rules::Fields;
 use rules::Reply;
+use rules::Slot;
 use rules::Status;
 
 fn write_shape(f: Fields, input: &[u8]) -> bool
@@ -56,7 +63,7 @@ fn config_write_free(c: [u8; 88], f: Fields, input: &[u8]) -> bool
 fn slot_encrypted(c: [u8; 88], f: Fields) -> bool
     ensures { λ r. ⌜ r ≡ slotEncrypted c f ⌝ }
 {
-    config::slot_bit(14, c, address::slot_of(address::word_of(f)))
+    config::slot_bit(14, c, address::data_slot(f))
 }
 
 fn is_encrypted(c: [u8; 88], f: Fields) -> bool
@@ -77,6 +84,17 @@ fn is_encrypted(c: [u8; 88], f: Fields) -> bool
     }
 }
 
+// MAC present exactly when encrypted.
+fn mac_present(c: [u8; 88], f: Fields, input: &[u8]) -> bool
+    ensures { λ r. ⌜ r ≡ (hasMac (now (input .entry)) iff encrypted c f) ⌝ }
+{
+    if is_encrypted(c, f) {
+        input.len() == 64
+    } else {
+        input.len() != 64
+    }
+}
+
 fn unlocked_write_free(d: Device, f: Fields) -> bool
     ensures { λ r. ⌜ r ≡ unlockedWriteFree d f ⌝ }
 {
@@ -92,18 +110,10 @@ fn unlocked_write_free(d: Device, f: Fields) -> bool
     }
 }
 
-fn slot_write_free(d: Device, f: Fields) -> bool
-    ensures { λ r. ⌜ r ≡ slotWriteFree d f ⌝ }
+// A slot takes a clear write: bits 15 and 13 clear, and 4 bytes only if IsSecret 0.
+fn clear_write_free(c: [u8; 88], f: Fields, k: Slot) -> bool
+    ensures { λ r. ⌜ r ≡ (not (writeConfigBit 15 c k) && not (writeConfigBit 13 c k) && (bit 7 (f .param1) || not (isSecret c k))) ⌝ }
 {
-    let c = d.config;
-    let t = d.tempKey;
-    let k = address::slot_of(address::word_of(f));
-    if slot_encrypted(c, f) {
-        if address::key_encrypts(t) {
-            return address::key_encrypts_for(c, t, config::write_key(c, k), k);
-        }
-        return false;
-    }
     if config::slot_bit(15, c, k) {
         return false;
     }
@@ -114,6 +124,23 @@ fn slot_write_free(d: Device, f: Fields) -> bool
         true
     } else {
         !config::slot_bit(7, c, k)
+    }
+}
+
+fn slot_write_free(d: Device, f: Fields) -> bool
+    ensures { λ r. ⌜ r ≡ slotWriteFree d f ⌝ }
+{
+    let c = d.config;
+    let t = d.tempKey;
+    let k = address::data_slot(f);
+    if slot_encrypted(c, f) {
+        if address::key_encrypts(t) {
+            address::key_encrypts_for(c, t, config::write_key(c, k), k)
+        } else {
+            false
+        }
+    } else {
+        clear_write_free(c, f, k)
     }
 }
 
@@ -148,17 +175,7 @@ fn write_free(d: Device, f: Fields, input: &[u8]) -> bool
     false
 }
 
-// MAC present exactly when encrypted.
-fn mac_present(c: [u8; 88], f: Fields, input: &[u8]) -> bool
-    ensures { λ r. ⌜ r ≡ (hasMac (now (input .entry)) iff encrypted c f) ⌝ }
-{
-    if is_encrypted(c, f) {
-        input.len() == 64
-    } else {
-        input.len() != 64
-    }
-}
-
+// Old AND new.
 fn and_row(a: [u8; 32], b: [u8; 32]) -> [u8; 32]
     ensures { λ r. ⌜ r ≡ andRow a b ⌝ }
 {
@@ -171,8 +188,9 @@ fn and_row(a: [u8; 32], b: [u8; 32]) -> [u8; 32]
     r
 }
 
+// Value XOR TempKey.
 fn plain_of(d: Device, input: &[u8]) -> [u8; 32]
-    requires { ⌜ length (now input) ≡ 64 ⌝ }
+    requires { ⌜ 32 ≤ length (now input) ⌝ }
     ensures { λ r. ⌜ r ≡ plain d (now (input .entry)) ⌝ }
 {
     let t = d.tempKey;
@@ -180,49 +198,65 @@ fn plain_of(d: Device, input: &[u8]) -> [u8; 32]
     rows::xor_row(rows::row_of(input, 0, 32), mask)
 }
 
-// Whether the MAC of an encrypted write is right.
-fn mac_right(d: Device, f: Fields, input: &[u8]) -> bool
-    requires { ⌜ length (now input) ≡ 64 ⌝ }
-    ensures { λ r. ⌜ r ≡ equal (writeMac d f (now (input .entry))) (bytes 32 63 (now (input .entry))) ⌝ }
+// Whether a MAC is that of an encrypted write.
+fn mac_right(d: Device, f: Fields, value: [u8; 32], mac: [u8; 32]) -> bool
+    ensures { λ r. ⌜ r ≡ equal (sha256 (layout96 (d .tempKey .bytes) (header 0x12 f) (d .config) value)) mac ⌝ }
 {
     let c = d.config;
     let t = d.tempKey;
     let key = t.bytes;
-    let m = messages::layout96_digest(key, messages::header_of(0x12, f), c, plain_of(d, input));
-    rows::equal_rows(&m, &input[32..64])
+    let right = messages::layout96_digest(key, messages::header_of(0x12, f), c, value);
+    rows::equal_rows(&right, &mac)
 }
 
-// A value for OTP: with values locked old AND new.
-fn otp_value(d: Device, f: Fields, value: &[u8]) -> [u8; 32]
+// A value stored in OTP: with values locked old AND new.
+fn write_otp(d: Device, f: Fields, value: &[u8]) -> Device
     requires { ⌜ length (now value) ≡ size f ⌝ }
-    ensures { λ r. ⌜ take (size f) r ≡ otpWritten d f (now (value .entry)) ⌝ }
+    requires { ⌜ position f + size f ≤ 64 ⌝ }
+    ensures { λ r. ⌜ r ≡ storeAll d (upwards inOtp (position f) (otpWritten d f (now (value .entry)))) ⌝ }
 {
     let c = d.config;
-    let new = rows::row_of(value, 0, 32);
+    let at = address::position_of(f);
     if config::values_locked(c) {
         let z = d.otp;
-        let old = rows::row_of(&z, address::position_of(f), address::size_of(f));
-        and_row(old, new)
+        let n = address::size_of(f);
+        let old = rows::row_of(&z, at, n);
+        let new = rows::row_of(value, 0, n);
+        let both = and_row(old, new);
+        stores::store_otp_row(d, at, &both[..n])
     } else {
-        new
+        stores::store_otp_row(d, at, value)
     }
 }
 
-// The device with a value stored where the fields say.
+// A value stored where the fields say.
 fn write_value(d: Device, f: Fields, value: &[u8]) -> Device
     requires { ⌜ length (now value) ≡ size f ⌝ }
+    requires { ⌜ addressFits f ≡ true ⌝ }
     ensures { λ r. ⌜ r ≡ storeAll d (written d f (now (value .entry))) ⌝ }
 {
     let zone = f.param1 % 4;
-    let at = address::position_of(f);
     match zone {
-        0 => stores::store_config_row(d, at, value),
-        1 => {
-            let row = otp_value(d, f, value);
-            let n = address::size_of(f);
-            stores::store_otp_row(d, at, &row[0..n])
-        }
-        _ => stores::store_data_row(d, at, value),
+        0 => stores::store_config_row(d, address::position_of(f), value),
+        1 => write_otp(d, f, value),
+        _ => stores::store_data_row(d, address::position_of(f), value),
+    }
+}
+
+// An encrypted write: its MAC decides.
+fn write_encrypted(d: Device, f: Fields, input: &[u8]) -> Reply
+    requires { ⌜ length (now input) ≡ 64 ⌝ }
+    requires { ⌜ size f ≡ 32 ⌝ }
+    requires { ⌜ addressFits f ≡ true ⌝ }
+    ensures { λ r. ⌜ r ≡ reply (if equal (writeMac d f (now (input .entry))) (bytes 32 63 (now (input .entry))) then puts (written d f (plain d (now (input .entry)))) else refusedAfter []) d ⌝ }
+{
+    let value = plain_of(d, input);
+    let mac = rows::row_of(input, 32, 32);
+    if mac_right(d, f, value, mac) {
+        let after = write_value(d, f, &value);
+        replies::said(after, Status::Done)
+    } else {
+        replies::said(d, Status::Refused)
     }
 }
 
@@ -234,14 +268,10 @@ fn write_checked(d: Device, f: Fields, input: &[u8]) -> Reply
 {
     let c = d.config;
     if is_encrypted(c, f) {
-        if mac_right(d, f, input) {
-            let value = plain_of(d, input);
-            replies::said(write_value(d, f, &value), Status::Done)
-        } else {
-            replies::said(d, Status::Refused)
-        }
+        write_encrypted(d, f, input)
     } else {
-        replies::said(write_value(d, f, input), Status::Done)
+        let after = write_value(d, f, input);
+        replies::said(after, Status::Done)
     }
 }
 
@@ -250,9 +280,11 @@ pub fn write(d: Device, f: Fields, input: &[u8]) -> Reply
 {
     if write_shape(f, input) {
         if write_free(d, f, input) {
-            return write_checked(d, f, input);
+            write_checked(d, f, input)
+        } else {
+            replies::said(d, Status::Refused)
         }
-        return replies::said(d, Status::Refused);
+    } else {
+        replies::said(d, Status::BadShape)
     }
-    replies::said(d, Status::BadShape)
 }

@@ -1,11 +1,11 @@
 // A fresh state from an image.
 ghost use mathlib.Core.Path.{_≡_};
-ghost use Prim.Native.Nat.{_+_, _≤_};
-ghost use lib.ListN.{length, take, drop};
+ghost use lib.ListN.{length};
 ghost use Rattle.rules.specs.State.{deviceFrom};
 ghost use Rattle.token.specs.Outcome.{freshOf};
 use crate::Token;
 use parts::replies;
+use parts::stores;
 use rules::Device;
 use rules::Number;
 use rules::Power;
@@ -16,60 +16,20 @@ pub struct Made {
     pub number: Number,
 }
 
-// 88, 64 and 512 bytes of a slice from a position.
-fn part88(s: &[u8], at: usize) -> [u8; 88]
-    requires { ⌜ at + 88 ≤ length (now s) ⌝ }
-    ensures { λ r. ⌜ r ≡ take 88 (drop at (now (s .entry))) ⌝ }
-{
-    let mut b = [0u8; 88];
-    let mut i: usize = 0;
-    while i < 88 {
-        b[i] = s[at + i];
-        i += 1;
-    }
-    b
-}
-
-fn part64(s: &[u8], at: usize) -> [u8; 64]
-    requires { ⌜ at + 64 ≤ length (now s) ⌝ }
-    ensures { λ r. ⌜ r ≡ take 64 (drop at (now (s .entry))) ⌝ }
-{
-    let mut b = [0u8; 64];
-    let mut i: usize = 0;
-    while i < 64 {
-        b[i] = s[at + i];
-        i += 1;
-    }
-    b
-}
-
-fn part512(s: &[u8], at: usize) -> [u8; 512]
-    requires { ⌜ at + 512 ≤ length (now s) ⌝ }
-    ensures { λ r. ⌜ r ≡ take 512 (drop at (now (s .entry))) ⌝ }
-{
-    let mut b = [0u8; 512];
-    let mut i: usize = 0;
-    while i < 512 {
-        b[i] = s[at + i];
-        i += 1;
-    }
-    b
-}
-
 // A device from the bytes of an image: configuration, OTP, data.
-fn device_from(s: &[u8]) -> Device
-    requires { ⌜ 664 ≤ length (now s) ⌝ }
-    ensures { λ r. ⌜ r ≡ deviceFrom (now (s .entry)) ⌝ }
+fn device_from(image: &[u8]) -> Device
+    requires { ⌜ length (now image) ≡ 664 ⌝ }
+    ensures { λ r. ⌜ r ≡ deviceFrom (now (image .entry)) ⌝ }
 {
-    let config = part88(s, 0);
-    let otp = part64(s, 88);
-    let data = part512(s, 152);
-    Device {
-        config,
-        otp,
-        data,
+    let blank = Device {
+        config: [0u8; 88],
+        otp: [0u8; 64],
+        data: [0u8; 512],
         tempKey: replies::emptied_key(),
-    }
+    };
+    let c = stores::store_config_row(blank, 0, &image[0..88]);
+    let o = stores::store_otp_row(c, 0, &image[88..152]);
+    stores::store_data_row(o, 0, &image[152..664])
 }
 
 // Number 4, and the 664 zeros' state, for any other length.

@@ -1,5 +1,6 @@
 // The token: a fresh state from an image, the four events as methods on it, and the answer's front part.
 ghost use mathlib.Core.Path.{_≡_};
+ghost use mathlib.Core.Bool.{true};
 ghost use mathlib.Core.List.{_∷_, [], _++_};
 ghost use Prim.Native.Nat.{_+_, _*_, _≤_};
 ghost use lib.ListN.{length, drop};
@@ -128,6 +129,37 @@ fn put_status(output: &mut [u8], s: Status) -> usize
     wire::put(output, &b)
 }
 
+// A block given to a token that is Awake, with buffers that are right.
+fn answer_block(token: Token, block: &[u8], random: &[u8], output: &mut [u8]) -> Outcome
+    requires { ⌜ isAwake (token .power) ≡ true ⌝ }
+    requires { ⌜ length (now random) ≡ 32 ⌝ }
+    requires { ⌜ 35 ≤ length (now output) ⌝ }
+    ensures { λ r. ⌜ r ≡ outcome token (blockTurn (token .device) (token .power) (now (block .entry)) (now (random .entry))) (now (random .entry)) (now (output .entry)) ⌝ }
+    ensures { λ r. ⌜ now (output .exit) ≡ outputAfter (blockTurn (token .device) (token .power) (now (block .entry)) (now (random .entry))) (now (random .entry)) (now (output .entry)) ⌝ }
+{
+    if wire::is_whole(block) {
+        let d = token.device;
+        let power = token.power;
+        let r = run_block(d, block, random);
+        let n = r.len;
+        let bytes = r.bytes;
+        let device = r.device;
+        let length = wire::put(output, &bytes[0..n]);
+        Outcome {
+            token: Token { device, power },
+            number: Number::Answered,
+            length,
+        }
+    } else {
+        let length = put_status(output, Status::Damaged);
+        Outcome {
+            token,
+            number: Number::Answered,
+            length,
+        }
+    }
+}
+
 impl Token {
     pub fn wake(self, random: &[u8], output: &mut [u8]) -> Outcome
         ensures { λ r. ⌜ r ≡ outcome self (wakeTurn (self .device) (self .power)) (now (random .entry)) (now (output .entry)) ⌝ }
@@ -215,26 +247,7 @@ impl Token {
         }
         let power = self.power;
         if is_awake(power) {
-            if wire::is_whole(block) {
-                let d = self.device;
-                let r = run_block(d, block, random);
-                let n = r.len;
-                let bytes = r.bytes;
-                let device = r.device;
-                let length = wire::put(output, &bytes[0..n]);
-                Outcome {
-                    token: Token { device, power },
-                    number: Number::Answered,
-                    length,
-                }
-            } else {
-                let length = put_status(output, Status::Damaged);
-                Outcome {
-                    token: self,
-                    number: Number::Answered,
-                    length,
-                }
-            }
+            answer_block(self, block, random, output)
         } else {
             left(self, Number::NoAnswer)
         }

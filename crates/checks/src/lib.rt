@@ -1,4 +1,4 @@
-// MAC and CheckMac.
+// MAC and CheckMac. Conditions are put together by `&` and `|`, as the rules state them: asking one changes nothing, so none need wait for another.
 ghost use mathlib.Core.Path.{_≡_};
 ghost use mathlib.Core.Bool.{true};
 ghost use mathlib.Core.List.{[]};

@@ -1,10 +1,14 @@
-// MAC and CheckMac.
+// MAC and CheckMac. Conditions are put together by `&` and `|`, as the rules state them: asking one changes nothing, so none need wait for another.
 ghost use mathlib.Core.Path.{_≡_};
 ghost use mathlib.Core.Bool.{true};
+ghost use mathlib.Core.List.{[]};
 ghost use lib.ListN.{length};
+ghost use Rattle.wire.specs.Wire.{if_then_else_};
 ghost use Rattle.rules.specs.Words.{equal};
+ghost use Rattle.rules.specs.State.{key};
+ghost use Rattle.rules.specs.Uses.{spend};
 ghost use Rattle.rules.specs.Plan.{storeAll, reply, settle};
-ghost use Rattle.rules.specs.Mac.{macShape, usesTempKey, drawsKey, sourceIsBit2, macTempKey, macSlot, macFree, firstRow, secondRow, keySpent, macDigest, mac};
+ghost use Rattle.rules.specs.Mac.{macShape, usesTempKey, drawsKey, sourceIsBit2, macTempKey, macSlot, macFree, firstRow, secondRow, macDigest, mac};
 ghost use Rattle.rules.specs.CheckMac.{checkMacShape, checkMacTempKey, checkMacSlot, checkMacFree, checkMacDigest, response, copyTarget, copyHolds, checkMacKey, checkMacStatus, checkMac};
 use parts::config;
 use parts::replies;
@@ -62,10 +66,10 @@ fn second_row(d: Device, f: Fields, sent: [u8; 32]) -> [u8; 32]
 }
 
 // A use of the key spent, where it is drawn on.
-fn key_spent(d: Device, f: Fields) -> Device
-    ensures { λ r. ⌜ r ≡ storeAll d (keySpent (d .config) f) ⌝ }
+fn key_spent(d: Device, f: Fields, drawn: bool) -> Device
+    ensures { λ r. ⌜ r ≡ storeAll d (if drawn then spend (d .config) (key f) else []) ⌝ }
 {
-    if draws_key(f) {
+    if drawn {
         uses::spend_use(d, config::key_of(f))
     } else {
         d
@@ -131,7 +135,7 @@ pub fn mac(d: Device, f: Fields, input: &[u8]) -> Reply
     if mac_shape(f, input) {
         if mac_free(d, f) {
             let answer = mac_digest(d, f, input);
-            replies::ended(key_spent(d, f), 32, answer)
+            replies::ended(key_spent(d, f, draws_key(f)), 32, answer)
         } else {
             replies::said(d, Status::Refused)
         }
@@ -237,7 +241,8 @@ pub fn check_mac(d: Device, f: Fields, input: &[u8]) -> Reply
         if check_mac_free(d, f) {
             let same = check_mac_equal(d, f, input);
             let key = check_mac_key(d, f, same);
-            replies::answered(key_spent(d, f), key, check_mac_status(same))
+            let spent = key_spent(d, f, draws_key(f));
+            replies::answered(spent, key, check_mac_status(same))
         } else {
             replies::said(d, Status::Refused)
         }

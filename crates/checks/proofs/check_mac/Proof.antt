@@ -1,6 +1,7 @@
 -- Shape and conditions are those of the rule, and what follows the comparison is its effect.
 use mathlib.Core.Path.{sym, _∙_}
 use denote.Ref.{now}
+use Rattle.rules.specs.Mac.{keySpent}
 use Rattle.rules.specs.CheckMac.{checkMacEffect, checkMac}
 use Rattle.checks.proofs.Sent.{check-length}
 use borrow.Author.Needs.{needs}
@@ -22,6 +23,9 @@ check-mac-equal-requires c κs =
 check-mac-key-requires : tie.Need-check-mac-key-requires
 check-mac-key-requires c κs = search needs
 
+draws-key-requires : tie.Need-draws-key-requires
+draws-key-requires c κs = search needs
+
 key-spent-requires : tie.Need-key-spent-requires
 key-spent-requires c κs = search needs
 
@@ -38,13 +42,13 @@ said-requires-2 : tie.Need-said-requires-2
 said-requires-2 c κs = search needs
 
 returns : tie.Need-returns
-unfolding checkMac checkMacEffect
+unfolding checkMac checkMacEffect keySpent
 returns c =
-    let p = c .before .before .before .before in
+    let p = c .before .before .before .before .before in
     let q = p .before .before in
     let shape = sym (q .before .before .check-mac-shape .ensures) ∙ q .before .if1 .taken in
     let free = sym (q .check-mac-free .ensures) ∙ p .before .if2 .taken in
-    rw (shape, free, c .answered .ensures, c .before .check-mac-status .ensures, c .before .before .key-spent .ensures, c .before .before .before .check-mac-key .ensures, p .check-mac-equal .ensures)
+    rw (shape, free, c .answered .ensures, c .before .check-mac-status .ensures, c .before .before .key-spent .ensures, c .before .before .before .draws-key .ensures, c .before .before .before .before .check-mac-key .ensures, p .check-mac-equal .ensures)
 
 returns-2 : tie.Need-returns-2
 unfolding checkMac
@@ -66,6 +70,7 @@ check-mac-spec =
     check-mac-free-requires
     check-mac-equal-requires
     check-mac-key-requires
+    draws-key-requires
     key-spent-requires
     check-mac-status-requires
     answered-requires

@@ -2,7 +2,7 @@
 use mathlib.Core.Path.{_≡_, sym, _∙_}
 use mathlib.Core.List.{append-nil}
 use lib.ListN.{length}
-use Rattle.rules.specs.Mac.{mac}
+use Rattle.rules.specs.Mac.{keySpent, mac}
 use borrow.Author.Needs.{needs}
 use Rattle.checks.proofs.mac.Statement.{statement}
 use Rattle.checks.proofs.mac.Tie as tie
@@ -15,6 +15,9 @@ mac-free-requires c κs = search needs
 
 mac-digest-requires : tie.Need-mac-digest-requires
 mac-digest-requires c κs = sym (c .before .before .before .mac-shape .ensures) ∙ c .before .before .if1 .taken
+
+draws-key-requires : tie.Need-draws-key-requires
+draws-key-requires c κs = search needs
 
 key-spent-requires : tie.Need-key-spent-requires
 key-spent-requires c κs = search needs
@@ -29,14 +32,14 @@ said-requires-2 : tie.Need-said-requires-2
 said-requires-2 c κs = search needs
 
 returns : tie.Need-returns
-unfolding mac
+unfolding mac keySpent
 returns c =
-    let p = c .before .before in
+    let p = c .before .before .before in
     let q = p .before .before in
     let shape = sym (q .before .before .mac-shape .ensures) ∙ q .before .if1 .taken in
     let free = sym (q .mac-free .ensures) ∙ p .before .if2 .taken in
     let l : length (p .mac-digest .result) ≡ 32 = search needs in
-    rw (shape, free, c .ended .ensures, c .before .key-spent .ensures, ← p .mac-digest .ensures, l, append-nil)
+    rw (shape, free, c .ended .ensures, c .before .key-spent .ensures, c .before .before .draws-key .ensures, ← p .mac-digest .ensures, l, append-nil)
 
 returns-2 : tie.Need-returns-2
 unfolding mac
@@ -57,6 +60,7 @@ mac-spec =
     mac-shape-requires
     mac-free-requires
     mac-digest-requires
+    draws-key-requires
     key-spent-requires
     ended-requires
     said-requires

@@ -15,8 +15,8 @@ use Rattle.rules.specs.Messages.{checkMacMessage}
 use Rattle.rules.specs.Mac.{macShape, secondRow}
 use Rattle.rules.specs.CheckMac.{checkMacShape, other}
 use Rattle.rules.proofs.Tests.{and-right}
-use Rattle.parts.specs.Row.{row}
-use Rattle.parts.proofs.Row.{row-there, row-whole}
+use Rattle.rows.specs.Row.{row}
+use Rattle.rows.proofs.Row.{row-there, row-whole}
 
 -- MAC: with bit 0 clear 32 bytes were sent, and they are all of the row; with bit 0 set the row is not looked at
 sent : (t : Bool) (key input : List ℕ) → (length input is (if t then 0 else 32)) ≡ true → (if t then key else row input 0 32) ≡ (if t then key else input)

@@ -12,8 +12,8 @@ use Rattle.rules.specs.Words.{_is_, _under_, zeros}
 use Rattle.rules.specs.Nonce.{nonceShape}
 use Rattle.rules.specs.GenDig.{fromData, checkOnlyKey, genDigShape}
 use Rattle.rules.proofs.Tests.{and-left, and-right}
-use Rattle.parts.specs.Row.{row}
-use Rattle.parts.proofs.Row.{row-whole}
+use Rattle.rows.specs.Row.{row}
+use Rattle.rows.proofs.Row.{row-whole}
 
 -- ---- Nonce: 32 bytes for Param1 3, else 20
 

@@ -2,9 +2,6 @@
 ghost use mathlib.Core.Path.{_≡_};
 ghost use Rattle.rules.specs.Plan.{reply, settle};
 ghost use Rattle.rules.specs.Nonce.{usedRandom, nonceShape, nonce, randomShape, random};
-use parts::config;
-use parts::replies;
-use parts::rows;
 use rules::Device;
 use rules::Fields;
 use rules::Reply;

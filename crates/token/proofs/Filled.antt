@@ -11,8 +11,8 @@ use Rattle.rules.specs.Words.{bytes, zeros}
 use Rattle.rules.specs.State.{emptied, deviceFrom}
 use Rattle.rules.specs.Plan.{inConfig, inOtp, inData, storeAll, upwards}
 use Rattle.rules.proofs.Stores.{Zone, configZone, otpZone, dataZone, stored-sets}
-use Rattle.parts.specs.Row.{row}
-use Rattle.parts.proofs.Row.{row-whole}
+use Rattle.rows.specs.Row.{row}
+use Rattle.rows.proofs.Row.{row-whole}
 
 filled-sets : (old l : List ℕ) → length l ≡ length old → sets old 0 l ≡ l
 filled-sets old l h =

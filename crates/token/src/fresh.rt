@@ -4,8 +4,6 @@ ghost use lib.ListN.{length};
 ghost use Rattle.rules.specs.State.{deviceFrom};
 ghost use Rattle.token.specs.Outcome.{freshOf};
 use crate::Token;
-use parts::replies;
-use parts::stores;
 use rules::Device;
 use rules::Number;
 use rules::Power;

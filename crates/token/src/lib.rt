@@ -10,8 +10,6 @@ ghost use Rattle.rules.specs.Plan.{reply};
 ghost use Rattle.rules.specs.Commands.{commandOf, planOf};
 ghost use Rattle.rules.specs.Events.{planFor, frontOf, wakeTurn, idleTurn, sleepTurn, blockTurn, outputAfter};
 ghost use Rattle.token.specs.Outcome.{outcome, unchanged};
-use parts::replies;
-use parts::rows;
 use rules::Device;
 use rules::Fields;
 use rules::Number;

@@ -17,8 +17,8 @@ use Rattle.rules.specs.Read.{readShape}
 use Rattle.rules.specs.Write.{writeShape, hasMac, slotEncrypted, configWriteFree, encrypted, lockedWriteFree, unlockedWriteFree, writeFree, andRow}
 use Rattle.rules.proofs.Tests.{and-left, and-right, if-within}
 use Rattle.rules.proofs.Rows.{andEach, take-each}
-use Rattle.parts.specs.Row.{row}
-use Rattle.parts.proofs.Row.{take-row}
+use Rattle.rows.specs.Row.{row}
+use Rattle.rows.proofs.Row.{take-row}
 
 -- ---- addresses
 

@@ -1,7 +1,6 @@
 // Where Read and Write go.
 ghost use mathlib.Core.Path.{_≡_};
 ghost use Rattle.rules.specs.Address.{size, word, slotOf, addressFits, position, encrypts, encryptsFor};
-use parts::config;
 use rules::Fields;
 use rules::Slot;
 use rules::TempKey;

@@ -6,7 +6,7 @@ use lib.ListN.{length}
 use Rattle.digest.specs.Sha256.{sha256}
 use Rattle.rules.specs.Mac.{firstRow, secondRow}
 use Rattle.rules.specs.CheckMac.{checkMacDigest, challenge}
-use Rattle.parts.proofs.Row.{row-whole}
+use Rattle.rows.proofs.Row.{row-whole}
 use Rattle.checks.proofs.Sent.{other-sent}
 use borrow.Author.Needs.{needs}
 use Rattle.checks.proofs.check_mac_digest.Statement.{statement}

@@ -4,7 +4,7 @@ use native.Mathlib.Omega.{arith}
 use denote.Ref.{now}
 use Prim.Native.Nat.{_-_}
 use lib.ListN.{length}
-use Rattle.parts.specs.Row.{row}
+use Rattle.rows.specs.Row.{row}
 use Rattle.token.proofs.Filled.{row-all}
 use Rattle.rules.specs.Events.{planFor}
 use borrow.Author.Needs.{needs}

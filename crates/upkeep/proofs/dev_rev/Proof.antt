@@ -3,7 +3,7 @@ use mathlib.Core.Path.{_≡_, sym, _∙_}
 use native.Mathlib.Omega.{arith}
 use lib.ListN.{length, take, drop, length-take, length-drop}
 use Rattle.rules.specs.Upkeep.{devRev}
-use Rattle.parts.proofs.Row.{row-there}
+use Rattle.rows.proofs.Row.{row-there}
 use borrow.Author.Needs.{needs}
 use Rattle.upkeep.proofs.dev_rev.Statement.{statement}
 use Rattle.upkeep.proofs.dev_rev.Tie as tie

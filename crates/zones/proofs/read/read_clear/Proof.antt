@@ -4,7 +4,7 @@ use native.Mathlib.Omega.{arith}
 use denote.Ref.{now}
 use lib.ListN.{length, take, drop, length-take, length-drop}
 use Rattle.rules.specs.Address.{size, position}
-use Rattle.parts.proofs.Row.{row-there}
+use Rattle.rows.proofs.Row.{row-there}
 use Rattle.zones.proofs.Fits.{size-small}
 use borrow.Author.Needs.{needs}
 use Rattle.zones.proofs.read.read_clear.Statement.{statement}

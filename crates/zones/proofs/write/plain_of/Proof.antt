@@ -1,6 +1,6 @@
 -- The value's 32 bytes are all there.
 use denote.Ref.{now}
-use Rattle.parts.proofs.Row.{row-whole}
+use Rattle.rows.proofs.Row.{row-whole}
 use borrow.Author.Needs.{needs}
 use Rattle.zones.proofs.write.plain_of.Statement.{statement}
 use Rattle.zones.proofs.write.plain_of.Tie as tie

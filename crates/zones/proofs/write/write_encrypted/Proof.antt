@@ -3,7 +3,7 @@ use mathlib.Core.Path.{_≡_, sym, _∙_}
 use native.Mathlib.Omega.{arith}
 use denote.Ref.{now}
 use Rattle.rules.specs.Write.{writeMac}
-use Rattle.parts.proofs.Row.{row-whole}
+use Rattle.rows.proofs.Row.{row-whole}
 use borrow.Author.Needs.{needs}
 use Rattle.zones.proofs.write.write_encrypted.Statement.{statement}
 use Rattle.zones.proofs.write.write_encrypted.Tie as tie

@@ -1,2 +1,0 @@
--- Laws of a row, for proofs to cite.
-pub mod Row

@@ -1,0 +1,24 @@
+-- What is asked of TempKey is asked where it is used.
+use mathlib.Core.Path.{sym, _∙_}
+use Rattle.rules.specs.CheckMac.{checkMacTempKey}
+use borrow.Author.Needs.{needs}
+use Rattle.checks.proofs.check_mac_temp_key.Statement.{statement}
+use Rattle.checks.proofs.check_mac_temp_key.Tie as tie
+
+uses-temp-key-requires : tie.Need-uses-temp-key-requires
+uses-temp-key-requires c κs = search needs
+
+source-is-bit2-requires : tie.Need-source-is-bit2-requires
+source-is-bit2-requires c κs = search needs
+
+returns : tie.Need-returns
+unfolding checkMacTempKey
+returns c = rw (sym (c .before .before .before .uses-temp-key .ensures) ∙ c .before .before .if1 .taken, c .before .source-is-bit2 .ensures)
+
+returns-2 : tie.Need-returns-2
+unfolding checkMacTempKey
+returns-2 c = rw (sym (c .before .uses-temp-key .ensures) ∙ c .if1 .left)
+
+pub check-mac-temp-key-spec : {M : Type 1} → statement M
+check-mac-temp-key-spec =
+    tie.close (tie.spec uses-temp-key-requires source-is-bit2-requires returns returns-2)

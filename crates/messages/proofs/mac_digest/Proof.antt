@@ -1,0 +1,78 @@
+-- Each field stands behind those before it; the two rows are whole.
+use mathlib.Core.Path.{_≡_}
+use native.Mathlib.Omega.{arith}
+use lib.ListN.{length}
+use lib.Seq.{take-all}
+use Rattle.rules.specs.Messages.{macMessage}
+use borrow.Author.Needs.{needs}
+use Rattle.messages.proofs.mac_digest.Statement.{statement}
+use Rattle.messages.proofs.mac_digest.Tie as tie
+
+slice-aggregate-add : tie.Need-slice-aggregate-add
+slice-aggregate-add c = search needs
+
+add-requires : tie.Need-add-requires
+add-requires c κs = search needs
+
+slice-aggregate-add-2 : tie.Need-slice-aggregate-add-2
+slice-aggregate-add-2 c = search needs
+
+add-requires-2 : tie.Need-add-requires-2
+add-requires-2 c κs = search needs
+
+header-of-requires : tie.Need-header-of-requires
+header-of-requires c κs = search needs
+
+slice-aggregate-add-3 : tie.Need-slice-aggregate-add-3
+slice-aggregate-add-3 c = search needs
+
+add-requires-3 : tie.Need-add-requires-3
+add-requires-3 c κs = search needs
+
+otp-fields-requires : tie.Need-otp-fields-requires
+otp-fields-requires c κs = search needs
+
+serial-fields-requires : tie.Need-serial-fields-requires
+serial-fields-requires c κs = search needs
+
+sub-digest : tie.Need-sub-digest
+sub-digest c = search needs
+
+part-digest-start : tie.Need-part-digest-start
+part-digest-start c = search needs
+
+part-digest-end : tie.Need-part-digest-end
+part-digest-end c = search needs
+
+digest-requires : tie.Need-digest-requires
+digest-requires c κs = search needs
+
+returns : tie.Need-returns
+unfolding macMessage
+returns c =
+    let p = c .before .before .before .before in
+    let q = p .before .before .before .before in
+    let s = q .before .before .before .before in
+    let a = s .args in
+    let l : length (a .t1) ≡ 32 = search (needs, s .good) in
+    let k : length (a .t2) ≡ 32 = search (needs, s .good) in
+    rw (c .digest .ensures, c .before .before .before .serial-fields .ensures, p .otp-fields .ensures, p .before .add3 .ensures, p .before .before .before .header-of .ensures, q .add2 .ensures, q .before .before .add .ensures, take-all 32 (a .t1) (omega arith), take-all 32 (a .t2) (omega arith))
+
+pub mac-digest-spec : {M : Type 1} → statement M
+mac-digest-spec =
+    tie.close
+    (tie.spec
+    slice-aggregate-add
+    add-requires
+    slice-aggregate-add-2
+    add-requires-2
+    header-of-requires
+    slice-aggregate-add-3
+    add-requires-3
+    otp-fields-requires
+    serial-fields-requires
+    sub-digest
+    part-digest-start
+    part-digest-end
+    digest-requires
+    returns)

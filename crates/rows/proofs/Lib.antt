@@ -1,0 +1,2 @@
+-- Laws of rows.
+pub mod Row

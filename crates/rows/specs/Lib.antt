@@ -1,0 +1,2 @@
+-- What the functions over rows promise by.
+pub mod Row

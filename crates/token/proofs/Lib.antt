@@ -1,0 +1,3 @@
+-- Laws of the token's events and of a fresh state.
+pub mod Ends
+pub mod Filled

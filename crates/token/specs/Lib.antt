@@ -1,0 +1,2 @@
+-- What a token's calls give back.
+pub mod Outcome

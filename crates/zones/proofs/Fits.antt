@@ -1,0 +1,138 @@
+-- Addresses and lengths that fit: the 4 or 32 bytes that an address names are all there, and a value is as long as its address asks.
+use Prim.Native.Nat.{ℕ, _+_, _*_, _/_, _≤_, _<_}
+use mathlib.Core.Path.{_≡_, refl, sym, _∙_}
+use mathlib.Core.Bool.{Bool, true, false, not, _&&_, _||_}
+use mathlib.Core.List.{List, [], _∷_}
+use native.Mathlib.Omega.{arith}
+use lib.ListN.{length, take, drop}
+use lib.Seq.{take-all}
+use borrow.Author.Tests.{eq-eqb, ne-eqb, leb-true, eqb-true, not-true}
+use Rattle.wire.specs.Wire.{if_then_else_}
+use Rattle.rules.specs.declared.Device.{Device}
+use Rattle.rules.specs.declared.Fields.{Fields}
+use Rattle.rules.specs.Words.{_⇒_, _iff_, _is_, _upTo_, bit, onlyBits}
+use Rattle.rules.specs.State.{configLocked, valuesLocked}
+use Rattle.rules.specs.Address.{zone, size, word, addressFits, position}
+use Rattle.rules.specs.Read.{readShape}
+use Rattle.rules.specs.Write.{writeShape, hasMac, slotEncrypted, configWriteFree, encrypted, lockedWriteFree, unlockedWriteFree, writeFree, andRow}
+use Rattle.rules.proofs.Tests.{and-left, and-right, if-within}
+use Rattle.rules.proofs.Rows.{andEach, take-each}
+use Rattle.rows.specs.Row.{row}
+use Rattle.rows.proofs.Row.{take-row}
+
+-- ---- addresses
+
+pub size-small : (f : Fields) → size f ≤ 32
+size-small f = if-within (bit 7 (f .param1)) {a = 32} {b = 4} (omega arith) (omega arith)
+
+pub position-small : (f : Fields) → position f ≤ 4 * f .param2
+unfolding position
+position-small f = if-within (bit 7 (f .param1)) {a = 32 * (f .param2 / 8)} {b = 4 * f .param2} (omega arith) (omega arith)
+
+-- words below a bound of whole slots
+below : (t : Bool) (w n : ℕ) → w < 8 * n → (if t then 32 * (w / 8) else 4 * w) + (if t then 32 else 4) ≤ 32 * n
+below true w n h = omega arith
+below false w n h = omega arith
+
+-- configuration words 0-21, by 32 bytes 0-15
+in-config : (t : Bool) (w : ℕ) → (w upTo 21 && (t ⇒ w upTo 15)) ≡ true → (if t then 32 * (w / 8) else 4 * w) + (if t then 32 else 4) ≤ 88
+in-config true w h = omega (arith, below true w 2 (omega (arith, leb-true w 15 (and-right (w upTo 21) (w upTo 15) h))))
+in-config false w h = omega (arith, leb-true w 21 (and-left (w upTo 21) true h))
+
+pub config-within : (f : Fields) → addressFits f ≡ true → zone f ≡ 0 → position f + size f ≤ 88
+unfolding addressFits position
+config-within f h z = in-config (bit 7 (f .param1)) (f .param2) (rw (eq-eqb _ _ z) at h)
+
+pub otp-within : (f : Fields) → addressFits f ≡ true → zone f ≡ 1 → position f + size f ≤ 64
+unfolding addressFits position
+otp-within f h z = below (bit 7 (f .param1)) (f .param2) 2 (omega (arith, leb-true (f .param2) 15 (rw z at h)))
+
+pub data-within : (f : Fields) → addressFits f ≡ true → (zone f ≡ 0 → ⊥) → (zone f ≡ 1 → ⊥) → position f + size f ≤ 512
+unfolding addressFits position
+data-within f h n m =
+    let k = rw (ne-eqb _ _ n, ne-eqb _ _ m) at h in
+    below (bit 7 (f .param1)) (f .param2) 16 (omega (arith, leb-true (f .param2) 127 (and-right (zone f is 2) (f .param2 upTo 127) k)))
+
+-- ---- shapes: the address fits, and a value without a MAC is as long as it asks
+
+pub read-fits : (f : Fields) (input : List ℕ) → readShape f input ≡ true → addressFits f ≡ true
+unfolding readShape
+read-fits f input h =
+    let bits = onlyBits (7 ∷ 1 ∷ 0 ∷ []) (f .param1) in
+    and-right bits (addressFits f) (and-left (bits && addressFits f) (length input is 0) h)
+
+lengthFits : Bool → ℕ → Bool
+lengthFits t n = if t then n is 32 || n is 64 else n is 4
+
+write-shape : (f : Fields) (input : List ℕ) → writeShape f input ≡ true
+    → (addressFits f ≡ true) × (lengthFits (bit 7 (f .param1)) (length input) ≡ true)
+unfolding writeShape lengthFits
+write-shape f input h =
+    let bits = onlyBits (7 ∷ 6 ∷ 1 ∷ 0 ∷ []) (f .param1) in
+    let fits = lengthFits (bit 7 (f .param1)) (length input) in
+    (and-right bits (addressFits f) (and-left (bits && addressFits f) fits h), and-right (bits && addressFits f) fits h)
+
+pub write-fits : (f : Fields) (input : List ℕ) → writeShape f input ≡ true → addressFits f ≡ true
+write-fits f input h = write-shape f input h .0
+
+or-first : (a b : Bool) → (a || b) ≡ true → b ≡ false → a ≡ true
+or-first true b h k = refl
+or-first false b h k = sym k ∙ h
+
+clear-length : (t : Bool) (n : ℕ) → lengthFits t n ≡ true → (n is 64) ≡ false → n ≡ (if t then 32 else 4)
+unfolding lengthFits
+clear-length true n h k = eqb-true n 32 (or-first (n is 32) (n is 64) h k)
+clear-length false n h k = eqb-true n 4 h
+
+mac-length : (t : Bool) (n : ℕ) → lengthFits t n ≡ true → n ≡ 64 → _≡_ {A = ℕ} (if t then 32 else 4) 32
+unfolding lengthFits
+mac-length true n h k = refl
+mac-length false n h k = omega (arith, eqb-true n 4 h)
+
+pub size-clear : (f : Fields) (input : List ℕ) → writeShape f input ≡ true → hasMac input ≡ false → length input ≡ size f
+size-clear f input h k = clear-length (bit 7 (f .param1)) (length input) (write-shape f input h .1) k
+
+pub size-mac : (f : Fields) (input : List ℕ) → writeShape f input ≡ true → hasMac input ≡ true → size f ≡ 32
+size-mac f input h k = mac-length (bit 7 (f .param1)) (length input) (write-shape f input h .1) (eqb-true (length input) 64 k)
+
+-- ---- MAC present exactly when encrypted
+
+both : (a b : Bool) → (a iff b) ≡ true → a ≡ b
+both true true e = refl
+both true false e = sym e
+both false true e = e
+both false false e = refl
+
+-- configuration takes no MAC
+no-mac : (config : List ℕ) (f : Fields) (input : List ℕ) → configWriteFree config f input ≡ true → hasMac input ≡ false
+unfolding configWriteFree
+no-mac config f input h =
+    let unlocked = not (configLocked config) in
+    let plain = not (bit 6 (f .param1)) in
+    let none = not (hasMac input) in
+    let above = 16 upTo position f in
+    let under = position f + size f upTo 84 in
+    not-true (hasMac input) (and-right (unlocked && plain) none (and-left (unlocked && plain && none) above (and-left (unlocked && plain && none && above) under h)))
+
+by-zone : (t a b m e : Bool) → (a ≡ true → m ≡ false) → (b ≡ true → m ≡ (if t then false else e)) → (if t then a else b) ≡ true → m ≡ (if t then false else e)
+by-zone true a b m e none same h = none h
+by-zone false a b m e none same h = same h
+
+pub mac-encrypted : (d : Device) (f : Fields) (input : List ℕ) → writeFree d f input ≡ true → hasMac input ≡ encrypted (d .config) f
+unfolding writeFree encrypted
+mac-encrypted d f input h =
+    let locked = configLocked (d .config) in
+    let same = hasMac input iff encrypted (d .config) f in
+    let rest = if valuesLocked (d .config) then lockedWriteFree d f else unlockedWriteFree d f in
+    by-zone (zone f is 0) (configWriteFree (d .config) f input) (locked && same && rest) (hasMac input)
+    (if valuesLocked (d .config) then zone f is 2 && slotEncrypted (d .config) f else bit 6 (f .param1))
+    (no-mac (d .config) f input)
+    (λ k. both (hasMac input) (encrypted (d .config) f) (and-right locked same (and-left (locked && same) rest k)))
+    h
+
+-- ---- old AND new: what stands in the first bytes of two rows
+pub and-taken : (old value : List ℕ) (at n : ℕ) → n ≤ 32 → at + n ≤ length old → length value ≡ n
+    → take n (andRow (row old at n) (row value 0 n)) ≡ andRow (take n (drop at old)) value
+and-taken old value at n h k e =
+    let f : take n (row value 0 n) ≡ value = take-row value 0 n h (omega arith) ∙ take-all n value (omega arith) in
+    rw (take-each andEach n (row old at n) (row value 0 n), take-row old at n h k, f)

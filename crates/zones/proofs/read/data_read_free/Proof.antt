@@ -1,0 +1,54 @@
+-- Both locks, then IsSecret, then EncryptRead.
+use mathlib.Core.Path.{sym, _∙_}
+use Rattle.rules.specs.Read.{dataReadFree}
+use borrow.Author.Needs.{needs}
+use Rattle.zones.proofs.read.data_read_free.Statement.{statement}
+use Rattle.zones.proofs.read.data_read_free.Tie as tie
+
+data-slot-requires : tie.Need-data-slot-requires
+data-slot-requires c κs = search needs
+
+both-locked-requires : tie.Need-both-locked-requires
+both-locked-requires c κs = search needs
+
+slot-bit-requires : tie.Need-slot-bit-requires
+slot-bit-requires c κs = search needs
+
+secret-read-free-requires : tie.Need-secret-read-free-requires
+secret-read-free-requires c κs = search needs
+
+slot-bit-requires-2 : tie.Need-slot-bit-requires-2
+slot-bit-requires-2 c κs = search needs
+
+returns : tie.Need-returns
+unfolding dataReadFree
+returns c =
+    let p = c .before .before .before in
+    let locked = sym (p .before .both-locked .ensures) ∙ p .if1 .taken in
+    let secret = sym (c .before .before .slot-bit .ensures) ∙ c .before .if2 .taken in
+    rw (locked, ← c .before .before .before .before .before .data-slot .ensures, secret) (c .secret-read-free .ensures)
+
+returns-2 : tie.Need-returns-2
+unfolding dataReadFree
+returns-2 c =
+    let p = c .before .before .before in
+    let locked = sym (p .before .both-locked .ensures) ∙ p .if1 .taken in
+    let clear = sym (c .before .before .slot-bit .ensures) ∙ c .before .if2 .left in
+    rw (locked, ← c .before .before .before .before .before .data-slot .ensures, clear, c .slot-bit2 .ensures)
+
+returns-3 : tie.Need-returns-3
+unfolding dataReadFree
+returns-3 c = rw (sym (c .before .both-locked .ensures) ∙ c .if1 .left)
+
+pub data-read-free-spec : {M : Type 1} → statement M
+data-read-free-spec =
+    tie.close
+    (tie.spec
+    data-slot-requires
+    both-locked-requires
+    slot-bit-requires
+    secret-read-free-requires
+    slot-bit-requires-2
+    returns
+    returns-2
+    returns-3)

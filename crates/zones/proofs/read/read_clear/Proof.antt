@@ -1,0 +1,47 @@
+-- The bytes are all there, filled up with zeros as the reply asks.
+use mathlib.Core.Path.{_≡_}
+use native.Mathlib.Omega.{arith}
+use denote.Ref.{now}
+use lib.ListN.{length, take, drop, length-take, length-drop}
+use Rattle.rules.specs.Address.{size, position}
+use Rattle.rows.proofs.Row.{row-there}
+use Rattle.zones.proofs.Fits.{size-small}
+use borrow.Author.Needs.{needs}
+use Rattle.zones.proofs.read.read_clear.Statement.{statement}
+use Rattle.zones.proofs.read.read_clear.Tie as tie
+
+position-of-requires : tie.Need-position-of-requires
+position-of-requires c κs = search needs
+
+size-of-requires : tie.Need-size-of-requires
+size-of-requires c κs = search needs
+
+row-of-requires : tie.Need-row-of-requires
+row-of-requires c κs = search needs
+
+size-of-requires-2 : tie.Need-size-of-requires-2
+size-of-requires-2 c κs = search needs
+
+ended-requires : tie.Need-ended-requires
+ended-requires c κs = search needs
+
+returns : tie.Need-returns
+returns c =
+    let a = c .before .before .before .before .before .before .args in
+    let zone = now (a .zone) in
+    let at = position (a .f) in
+    let n = size (a .f) in
+    let fits = c .before .before .before .before .before .before .pre in
+    let all : length (take n (drop at zone)) ≡ n = simp (length-take, length-drop) (omega arith) in
+    rw (all, c .ended .ensures, c .before .size-of2 .ensures, c .before .before .row-of .ensures, c .before .before .before .size-of .ensures, c .before .before .before .before .position-of .ensures, row-there zone at n (size-small (a .f)) fits)
+
+pub read-clear-spec : {M : Type 1} → statement M
+read-clear-spec =
+    tie.close
+    (tie.spec
+    position-of-requires
+    size-of-requires
+    row-of-requires
+    size-of-requires-2
+    ended-requires
+    returns)

@@ -1,0 +1,59 @@
+-- Encrypted, TempKey is asked; clear, the other bits.
+use mathlib.Core.Path.{sym, _∙_}
+use Rattle.rules.specs.Write.{slotWriteFree}
+use borrow.Author.Needs.{needs}
+use Rattle.zones.proofs.write.slot_write_free.Statement.{statement}
+use Rattle.zones.proofs.write.slot_write_free.Tie as tie
+
+data-slot-requires : tie.Need-data-slot-requires
+data-slot-requires c κs = search needs
+
+slot-encrypted-requires : tie.Need-slot-encrypted-requires
+slot-encrypted-requires c κs = search needs
+
+key-encrypts-requires : tie.Need-key-encrypts-requires
+key-encrypts-requires c κs = search needs
+
+write-key-requires : tie.Need-write-key-requires
+write-key-requires c κs = search needs
+
+key-encrypts-for-requires : tie.Need-key-encrypts-for-requires
+key-encrypts-for-requires c κs = search needs
+
+clear-write-free-requires : tie.Need-clear-write-free-requires
+clear-write-free-requires c κs = search needs
+
+returns : tie.Need-returns
+unfolding slotWriteFree
+returns c =
+    let p = c .before .before .before .before in
+    let hidden = sym (p .before .slot-encrypted .ensures) ∙ p .if1 .taken in
+    let temp = sym (c .before .before .before .key-encrypts .ensures) ∙ c .before .before .if2 .taken in
+    rw (hidden, temp, c .key-encrypts-for .ensures, c .before .write-key .ensures, p .before .before .data-slot .ensures)
+
+returns-2 : tie.Need-returns-2
+unfolding slotWriteFree
+returns-2 c =
+    let p = c .before .before in
+    let hidden = sym (p .before .slot-encrypted .ensures) ∙ p .if1 .taken in
+    rw (hidden, sym (c .before .key-encrypts .ensures) ∙ c .if2 .left)
+
+returns-3 : tie.Need-returns-3
+unfolding slotWriteFree
+returns-3 c =
+    let clear = sym (c .before .before .slot-encrypted .ensures) ∙ c .before .if1 .left in
+    rw (clear, c .clear-write-free .ensures, c .before .before .before .data-slot .ensures)
+
+pub slot-write-free-spec : {M : Type 1} → statement M
+slot-write-free-spec =
+    tie.close
+    (tie.spec
+    data-slot-requires
+    slot-encrypted-requires
+    key-encrypts-requires
+    write-key-requires
+    key-encrypts-for-requires
+    clear-write-free-requires
+    returns
+    returns-2
+    returns-3)

@@ -1,0 +1,65 @@
+-- The mask leaves bits 7, 6, 1 and 0; then the address and the length are asked.
+use mathlib.Core.Path.{sym, _∙_}
+use borrow.Author.Tests.{eq-eqb, ne-eqb}
+use Rattle.rules.specs.Write.{writeShape}
+use Rattle.rules.proofs.Masks.{write-mask}
+use borrow.Author.Needs.{needs}
+use Rattle.zones.proofs.write.write_shape.Statement.{statement}
+use Rattle.zones.proofs.write.write_shape.Tie as tie
+
+only-bits-requires : tie.Need-only-bits-requires
+only-bits-requires c κs = search needs
+
+address-fits-requires : tie.Need-address-fits-requires
+address-fits-requires c κs = search needs
+
+returns : tie.Need-returns
+unfolding writeShape
+returns c =
+    let q = c .before .before .before in
+    let p = q .before .before in
+    let bits = sym (write-mask (c .before .before .before .before .before .before .before .before .args .f .param1) (search needs)) ∙ sym (p .before .only-bits .ensures) ∙ p .if1 .taken in
+    let fits = sym (q .before .address-fits .ensures) ∙ q .if2 .taken in
+    rw (bits, fits, eq-eqb _ _ (c .before .if3 .taken), eq-eqb _ _ (c .if4 .taken))
+
+returns-2 : tie.Need-returns-2
+unfolding writeShape
+returns-2 c =
+    let q = c .before .before .before in
+    let p = q .before .before in
+    let bits = sym (write-mask (c .before .before .before .before .before .before .before .before .args .f .param1) (search needs)) ∙ sym (p .before .only-bits .ensures) ∙ p .if1 .taken in
+    let fits = sym (q .before .address-fits .ensures) ∙ q .if2 .taken in
+    rw (bits, fits, eq-eqb _ _ (c .before .if3 .taken), ne-eqb _ _ (c .if4 .left))
+
+returns-3 : tie.Need-returns-3
+unfolding writeShape
+returns-3 c =
+    let q = c .before .before in
+    let p = q .before .before in
+    let bits = sym (write-mask (c .before .before .before .before .before .before .before .args .f .param1) (search needs)) ∙ sym (p .before .only-bits .ensures) ∙ p .if1 .taken in
+    let fits = sym (q .before .address-fits .ensures) ∙ q .if2 .taken in
+    rw (bits, fits, ne-eqb _ _ (c .if3 .left))
+
+returns-4 : tie.Need-returns-4
+unfolding writeShape
+returns-4 c =
+    let q = c in
+    let p = q .before .before in
+    let bits = sym (write-mask (c .before .before .before .before .before .args .f .param1) (search needs)) ∙ sym (p .before .only-bits .ensures) ∙ p .if1 .taken in
+    rw (bits, sym (q .before .address-fits .ensures) ∙ q .if2 .left)
+
+returns-5 : tie.Need-returns-5
+unfolding writeShape
+returns-5 c = rw (sym (write-mask (c .before .before .before .args .f .param1) (search needs)) ∙ sym (c .before .only-bits .ensures) ∙ c .if1 .left)
+
+pub write-shape-spec : {M : Type 1} → statement M
+write-shape-spec =
+    tie.close
+    (tie.spec
+    only-bits-requires
+    address-fits-requires
+    returns
+    returns-2
+    returns-3
+    returns-4
+    returns-5)

@@ -1,0 +1,4 @@
+// Read and Write.
+mod address;
+pub mod read;
+pub mod write;

@@ -1,0 +1,286 @@
+// Write.
+ghost use mathlib.Core.Path.{_≡_};
+ghost use mathlib.Core.Bool.{true, not, _&&_, _||_};
+ghost use mathlib.Core.List.{[]};
+ghost use Prim.Native.Nat.{_+_, _≤_};
+ghost use lib.ListN.{length};
+ghost use Rattle.digest.specs.Sha256.{sha256};
+ghost use Rattle.wire.specs.Wire.{if_then_else_};
+ghost use Rattle.rules.specs.Words.{_iff_, bit, bytes, equal};
+ghost use Rattle.rules.specs.State.{isSecret, writeConfigBit};
+ghost use Rattle.rules.specs.Plan.{inOtp, upwards, storeAll, puts, refusedAfter, reply, settle};
+ghost use Rattle.rules.specs.Messages.{header, layout96};
+ghost use Rattle.rules.specs.Address.{size, addressFits, position};
+ghost use Rattle.rules.specs.Write.{hasMac, slotEncrypted, andRow, writeEffect, writeShape, configWriteFree, encrypted, unlockedWriteFree, slotWriteFree, lockedWriteFree, writeFree, plain, writeMac, otpWritten, written, write};
+use crate::address;
+use rules::Device;
+use rules::Fields;
+use rules::Reply;
+use rules::Slot;
+use rules::Status;
+
+fn write_shape(f: Fields, input: &[u8]) -> bool
+    ensures { λ r. ⌜ r ≡ writeShape f (now (input .entry)) ⌝ }
+{
+    if config::only_bits(0xC3, f.param1) {
+        if address::address_fits(f) {
+            if f.param1 / 128 % 2 == 1 {
+                if input.len() == 32 {
+                    return true;
+                }
+                return input.len() == 64;
+            }
+            return input.len() == 4;
+        }
+    }
+    false
+}
+
+fn config_write_free(c: [u8; 88], f: Fields, input: &[u8]) -> bool
+    ensures { λ r. ⌜ r ≡ configWriteFree c f (now (input .entry)) ⌝ }
+{
+    let at = address::position_of(f);
+    if config::config_locked(c) {
+        return false;
+    }
+    if f.param1 / 64 % 2 == 1 {
+        return false;
+    }
+    if input.len() == 64 {
+        return false;
+    }
+    if 16 <= at {
+        at + address::size_of(f) <= 84
+    } else {
+        false
+    }
+}
+
+fn slot_encrypted(c: [u8; 88], f: Fields) -> bool
+    ensures { λ r. ⌜ r ≡ slotEncrypted c f ⌝ }
+{
+    config::slot_bit(14, c, address::data_slot(f))
+}
+
+fn is_encrypted(c: [u8; 88], f: Fields) -> bool
+    ensures { λ r. ⌜ r ≡ encrypted c f ⌝ }
+{
+    let zone = f.param1 % 4;
+    if zone == 0 {
+        return false;
+    }
+    if config::values_locked(c) {
+        if zone == 2 {
+            slot_encrypted(c, f)
+        } else {
+            false
+        }
+    } else {
+        f.param1 / 64 % 2 == 1
+    }
+}
+
+// MAC present exactly when encrypted.
+fn mac_present(c: [u8; 88], f: Fields, input: &[u8]) -> bool
+    ensures { λ r. ⌜ r ≡ (hasMac (now (input .entry)) iff encrypted c f) ⌝ }
+{
+    if is_encrypted(c, f) {
+        input.len() == 64
+    } else {
+        input.len() != 64
+    }
+}
+
+fn unlocked_write_free(d: Device, f: Fields) -> bool
+    ensures { λ r. ⌜ r ≡ unlockedWriteFree d f ⌝ }
+{
+    if f.param1 / 128 % 2 == 1 {
+        if f.param1 / 64 % 2 == 1 {
+            let t = d.tempKey;
+            address::key_encrypts(t)
+        } else {
+            true
+        }
+    } else {
+        false
+    }
+}
+
+// A slot takes a clear write: bits 15 and 13 clear, and 4 bytes only if IsSecret 0.
+fn clear_write_free(c: [u8; 88], f: Fields, k: Slot) -> bool
+    ensures { λ r. ⌜ r ≡ (not (writeConfigBit 15 c k) && not (writeConfigBit 13 c k) && (bit 7 (f .param1) || not (isSecret c k))) ⌝ }
+{
+    if config::slot_bit(15, c, k) {
+        return false;
+    }
+    if config::slot_bit(13, c, k) {
+        return false;
+    }
+    if f.param1 / 128 % 2 == 1 {
+        true
+    } else {
+        !config::slot_bit(7, c, k)
+    }
+}
+
+fn slot_write_free(d: Device, f: Fields) -> bool
+    ensures { λ r. ⌜ r ≡ slotWriteFree d f ⌝ }
+{
+    let c = d.config;
+    let t = d.tempKey;
+    let k = address::data_slot(f);
+    if slot_encrypted(c, f) {
+        if address::key_encrypts(t) {
+            address::key_encrypts_for(c, t, config::write_key(c, k), k)
+        } else {
+            false
+        }
+    } else {
+        clear_write_free(c, f, k)
+    }
+}
+
+fn locked_write_free(d: Device, f: Fields) -> bool
+    ensures { λ r. ⌜ r ≡ lockedWriteFree d f ⌝ }
+{
+    if f.param1 / 64 % 2 == 1 {
+        return false;
+    }
+    if f.param1 % 4 == 1 {
+        d.config[18] == 0x55
+    } else {
+        slot_write_free(d, f)
+    }
+}
+
+fn write_free(d: Device, f: Fields, input: &[u8]) -> bool
+    ensures { λ r. ⌜ r ≡ writeFree d f (now (input .entry)) ⌝ }
+{
+    let c = d.config;
+    if f.param1 % 4 == 0 {
+        return config_write_free(c, f, input);
+    }
+    if config::config_locked(c) {
+        if mac_present(c, f, input) {
+            if config::values_locked(c) {
+                return locked_write_free(d, f);
+            }
+            return unlocked_write_free(d, f);
+        }
+    }
+    false
+}
+
+// Old AND new.
+fn and_row(a: [u8; 32], b: [u8; 32]) -> [u8; 32]
+    ensures { λ r. ⌜ r ≡ andRow a b ⌝ }
+{
+    let mut r = [0u8; 32];
+    let mut i: usize = 0;
+    while i < 32 {
+        r[i] = a[i] & b[i];
+        i += 1;
+    }
+    r
+}
+
+// Value XOR TempKey.
+fn plain_of(d: Device, input: &[u8]) -> [u8; 32]
+    requires { ⌜ 32 ≤ length (now input) ⌝ }
+    ensures { λ r. ⌜ r ≡ plain d (now (input .entry)) ⌝ }
+{
+    let t = d.tempKey;
+    let mask = t.bytes;
+    rows::xor_row(rows::row_of(input, 0, 32), mask)
+}
+
+// Whether a MAC is that of an encrypted write.
+fn mac_right(d: Device, f: Fields, value: [u8; 32], mac: [u8; 32]) -> bool
+    ensures { λ r. ⌜ r ≡ equal (sha256 (layout96 (d .tempKey .bytes) (header 0x12 f) (d .config) value)) mac ⌝ }
+{
+    let c = d.config;
+    let t = d.tempKey;
+    let key = t.bytes;
+    let right = messages::layout96_digest(key, messages::header_of(0x12, f), c, value);
+    rows::equal_rows(&right, &mac)
+}
+
+// A value stored in OTP: with values locked old AND new.
+fn write_otp(d: Device, f: Fields, value: &[u8]) -> Device
+    requires { ⌜ length (now value) ≡ size f ⌝ }
+    requires { ⌜ position f + size f ≤ 64 ⌝ }
+    ensures { λ r. ⌜ r ≡ storeAll d (upwards inOtp (position f) (otpWritten d f (now (value .entry)))) ⌝ }
+{
+    let c = d.config;
+    let at = address::position_of(f);
+    if config::values_locked(c) {
+        let z = d.otp;
+        let n = address::size_of(f);
+        let old = rows::row_of(&z, at, n);
+        let new = rows::row_of(value, 0, n);
+        let both = and_row(old, new);
+        stores::store_otp_row(d, at, &both[..n])
+    } else {
+        stores::store_otp_row(d, at, value)
+    }
+}
+
+// A value stored where the fields say.
+fn write_value(d: Device, f: Fields, value: &[u8]) -> Device
+    requires { ⌜ length (now value) ≡ size f ⌝ }
+    requires { ⌜ addressFits f ≡ true ⌝ }
+    ensures { λ r. ⌜ r ≡ storeAll d (written d f (now (value .entry))) ⌝ }
+{
+    let zone = f.param1 % 4;
+    match zone {
+        0 => stores::store_config_row(d, address::position_of(f), value),
+        1 => write_otp(d, f, value),
+        _ => stores::store_data_row(d, address::position_of(f), value),
+    }
+}
+
+// An encrypted write: its MAC decides.
+fn write_encrypted(d: Device, f: Fields, input: &[u8]) -> Reply
+    requires { ⌜ length (now input) ≡ 64 ⌝ }
+    requires { ⌜ size f ≡ 32 ⌝ }
+    requires { ⌜ addressFits f ≡ true ⌝ }
+    ensures { λ r. ⌜ r ≡ reply (if equal (writeMac d f (now (input .entry))) (bytes 32 63 (now (input .entry))) then puts (written d f (plain d (now (input .entry)))) else refusedAfter []) d ⌝ }
+{
+    let value = plain_of(d, input);
+    let mac = rows::row_of(input, 32, 32);
+    if mac_right(d, f, value, mac) {
+        let after = write_value(d, f, &value);
+        replies::said(after, Status::Done)
+    } else {
+        replies::said(d, Status::Refused)
+    }
+}
+
+// What a write comes to once its shape and its conditions before the digest hold.
+fn write_checked(d: Device, f: Fields, input: &[u8]) -> Reply
+    requires { ⌜ writeShape f (now input) ≡ true ⌝ }
+    requires { ⌜ writeFree d f (now input) ≡ true ⌝ }
+    ensures { λ r. ⌜ r ≡ reply (writeEffect d f (now (input .entry))) d ⌝ }
+{
+    let c = d.config;
+    if is_encrypted(c, f) {
+        write_encrypted(d, f, input)
+    } else {
+        let after = write_value(d, f, input);
+        replies::said(after, Status::Done)
+    }
+}
+
+pub fn write(d: Device, f: Fields, input: &[u8]) -> Reply
+    ensures { λ r. ⌜ r ≡ reply (settle (write d f (now (input .entry)))) d ⌝ }
+{
+    if write_shape(f, input) {
+        if write_free(d, f, input) {
+            write_checked(d, f, input)
+        } else {
+            replies::said(d, Status::Refused)
+        }
+    } else {
+        replies::said(d, Status::BadShape)
+    }
+}

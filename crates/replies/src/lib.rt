@@ -72,13 +72,13 @@ pub fn taken_key(bytes: [u8; 32], source: bool) -> TempKey
 pub fn answered(d: Device, key: TempKey, s: Status) -> Reply
     ensures { λ r. ⌜ r ≡ record { device = withTempKey key d; len = 1; bytes = statusByte s ∷ zeros 31 } ⌝ }
 {
-    let mut bytes = [0u8; 32];
-    bytes[0] = status_byte(s);
+    let mut answer = [0u8; 32];
+    answer[0] = status_byte(s);
     let mut device = d;
     device.tempKey = key;
     Reply {
         device,
         len: 1,
-        bytes,
+        bytes: answer,
     }
 }

@@ -1,0 +1,5 @@
+-- The demands of the minutes, item 4, as statements; their proofs are in proofs/.
+pub mod Calls
+pub mod Demand1
+pub mod Demand3
+pub mod Locked

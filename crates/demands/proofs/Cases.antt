@@ -1,0 +1,58 @@
+-- By cases on a test, on a rule's checks, on an event, on a call's buffers; and over runs of calls.
+use Prim.Native.Nat.{ℕ}
+use mathlib.Core.Path.{_≡_, refl}
+use mathlib.Core.Bool.{Bool, true, false}
+use mathlib.Core.List.{List, [], _∷_}
+use lib.ListN.{length}
+use Rattle.wire.specs.Wire.{if_then_else_, whole}
+use Rattle.rules.specs.declared.Device.{Device}
+use Rattle.rules.specs.declared.Power.{Power}
+use Rattle.rules.specs.declared.Status.the-variants.{BadShape, Refused}
+use Rattle.rules.specs.Words.{_is_, _under_}
+use Rattle.rules.specs.State.{isAwake, emptied}
+use Rattle.rules.specs.Plan.{Plan, withTempKey, apply, says, Rule, settle}
+use Rattle.rules.specs.Events.{Event, wake, idle, sleep, block, Turn, turn, wakeTurn, idleTurn, sleepTurn, blockTurn, planFor}
+use Rattle.token.specs.declared.Token.{Token}
+use Rattle.token.specs.declared.Outcome.{Outcome}
+use Rattle.token.specs.Outcome.{outcome}
+use Rattle.demands.specs.Calls.{Call, turnOf, given, after}
+
+-- what holds of both cases holds of either
+pub if-all : {A : Type 0} (P : A → Type 0) (t : Bool) {x y : A} → P x → P y → P (if t then x else y)
+if-all P true p q = p
+if-all P false p q = q
+
+-- the same, with the test's answer in hand
+pub if-cases : {A : Type 0} (P : A → Type 0) (t : Bool) {x y : A} → (t ≡ true → P x) → (t ≡ false → P y) → P (if t then x else y)
+if-cases P true p q = p refl
+if-cases P false p q = q refl
+
+-- what holds of a rule's effect where its checks passed, and of the two refusals, holds of what the rule comes to
+pub settle-all : (P : Plan → Type 0) (r : Rule) → (r .shape ≡ true → r .free ≡ true → P (r .effect)) → P (says Refused) → P (says BadShape)
+    → P (settle r)
+settle-all P r effect refused misshapen =
+    if-cases P (r .shape) (λ s. if-cases P (r .free) (λ f. effect s f) (λ _. refused)) (λ _. misshapen)
+
+-- the device after an event: as it was, with TempKey emptied, or after a whole block's plan
+pub turn-device : (P : Device → Type 0) (d : Device) (p : Power) (e : Event) (supplied : List ℕ) → P d → P (withTempKey emptied d)
+    → ((b : List ℕ) → P (apply (planFor d b supplied) d)) → P (turn d p e supplied .device)
+unfolding wakeTurn idleTurn sleepTurn blockTurn
+turn-device P d p wake supplied same emptied planned = if-all (λ (t : Turn). P (t .device)) (isAwake p) same same
+turn-device P d p idle supplied same emptied planned = same
+turn-device P d p sleep supplied same emptied planned = emptied
+turn-device P d p (block b) supplied same emptied planned =
+    if-all (λ (t : Turn). P (t .device)) (isAwake p) (if-all (λ (t : Turn). P (t .device)) (whole b) (planned b) same) same
+
+-- the token after a call: as it was, or as the event leaves it
+pub given-token : (P : Token → Type 0) (s : Token) (c : Call) → P s
+    → P (record { device = turnOf s c .device; power = turnOf s c .power }) → P (given s c .token)
+unfolding outcome
+given-token P s c same turned =
+    if-all (λ (o : Outcome). P (o .token)) (length (c .output) under 35) same
+    (if-all (λ (o : Outcome). P (o .token)) (length (c .random) is 32) turned same)
+
+-- what each call leaves, a run leaves
+pub after-all : (P : Token → Type 0) → ((s : Token) (c : Call) → P s → P (given s c .token)) → (s : Token) (cs : List Call) → P s
+    → P (after s cs)
+after-all P step s [] h = h
+after-all P step s (c ∷ cs) h = after-all P step (given s c .token) cs (step s c h)

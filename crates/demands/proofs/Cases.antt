@@ -2,20 +2,21 @@
 use Prim.Native.Nat.{ℕ}
 use mathlib.Core.Path.{_≡_, refl}
 use mathlib.Core.Bool.{Bool, true, false}
-use mathlib.Core.List.{List, [], _∷_}
-use lib.ListN.{length}
+use mathlib.Core.List.{List, [], _∷_, _++_}
+use lib.ListN.{length, drop}
 use Rattle.wire.specs.Wire.{if_then_else_, whole}
 use Rattle.rules.specs.declared.Device.{Device}
 use Rattle.rules.specs.declared.Power.{Power}
+use Rattle.rules.specs.declared.Number.the-variants.{ShortOutput, WrongRandom}
 use Rattle.rules.specs.declared.Status.the-variants.{BadShape, Refused}
 use Rattle.rules.specs.Words.{_is_, _under_}
 use Rattle.rules.specs.State.{isAwake, emptied}
 use Rattle.rules.specs.Plan.{Plan, withTempKey, apply, says, Rule, settle}
-use Rattle.rules.specs.Events.{Event, wake, idle, sleep, block, Turn, turn, wakeTurn, idleTurn, sleepTurn, blockTurn, planFor}
+use Rattle.rules.specs.Events.{Event, wake, idle, sleep, block, Turn, turn, wakeTurn, idleTurn, sleepTurn, blockTurn, planFor, numberFor, outputAfter}
 use Rattle.token.specs.declared.Token.{Token}
 use Rattle.token.specs.declared.Outcome.{Outcome}
-use Rattle.token.specs.Outcome.{outcome}
-use Rattle.demands.specs.Calls.{Call, turnOf, given, after}
+use Rattle.token.specs.Outcome.{outcome, unchanged}
+use Rattle.demands.specs.Calls.{Call, turnOf, given, outputOf, after}
 
 -- what holds of both cases holds of either
 pub if-all : {A : Type 0} (P : A → Type 0) (t : Bool) {x y : A} → P x → P y → P (if t then x else y)
@@ -43,13 +44,26 @@ turn-device P d p sleep supplied same emptied planned = emptied
 turn-device P d p (block b) supplied same emptied planned =
     if-all (λ (t : Turn). P (t .device)) (isAwake p) (if-all (λ (t : Turn). P (t .device)) (whole b) (planned b) same) same
 
--- the token after a call: as it was, or as the event leaves it
-pub given-token : (P : Token → Type 0) (s : Token) (c : Call) → P s
-    → P (record { device = turnOf s c .device; power = turnOf s c .power }) → P (given s c .token)
-unfolding outcome
-given-token P s c same turned =
-    if-all (λ (o : Outcome). P (o .token)) (length (c .output) under 35) same
-    (if-all (λ (o : Outcome). P (o .token)) (length (c .random) is 32) turned same)
+-- what an event gives a call whose buffers are right, and the output after it
+abbrev pub turned : Turn → Outcome
+turned t = record { token = record { device = t .device; power = t .power }; number = numberFor (t .answer); length = length (t .answer) }
+
+abbrev pub answered : Turn → List ℕ → List ℕ
+answered t output = t .answer ++ drop (length (t .answer)) output
+
+-- what a call gives, and the output after it: those of number 1, of number 2, or the event's
+pub call-cases : (P : Outcome → List ℕ → Type 0) (s : Token) (c : Call) → P (unchanged s ShortOutput) (c .output)
+    → P (unchanged s WrongRandom) (c .output)
+    → (length (c .output) under 35 ≡ false → length (c .random) is 32 ≡ true → P (turned (turnOf s c)) (answered (turnOf s c) (c .output)))
+    → P (given s c) (outputOf s c)
+unfolding outcome outputAfter
+call-cases P s c short wrong right = go (length (c .output) under 35) (length (c .random) is 32) right where
+  go : (a b : Bool) → (a ≡ false → b ≡ true → P (turned (turnOf s c)) (answered (turnOf s c) (c .output)))
+      → P (if a then unchanged s ShortOutput else (if b then turned (turnOf s c) else unchanged s WrongRandom))
+      (if a then c .output else (if b then answered (turnOf s c) (c .output) else c .output))
+  go true b h = short
+  go false true h = h refl refl
+  go false false h = wrong
 
 -- what each call leaves, a run leaves
 pub after-all : (P : Token → Type 0) → ((s : Token) (c : Call) → P s → P (given s c .token)) → (s : Token) (cs : List Call) → P s

@@ -1,3 +1,5 @@
--- Proofs of the demands; Cases holds what they share.
+-- Proofs of the demands; Cases and Answers hold what they share.
 pub mod Cases
+pub mod Answers
 pub mod Locked
+pub mod Demand1

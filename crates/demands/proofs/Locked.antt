@@ -29,9 +29,10 @@ use Rattle.rules.specs.Events.{planFor, opcodeOf, fieldsOf, inputOf}
 use Rattle.rules.proofs.Tests.{and-left, and-right}
 use Rattle.rules.proofs.Uses.{use-within}
 use Rattle.token.specs.declared.Token.{Token}
-use Rattle.demands.specs.Calls.{Call, after}
+use Rattle.token.specs.declared.Outcome.{Outcome}
+use Rattle.demands.specs.Calls.{Call, given, after}
 use Rattle.demands.specs.Locked.{StaysLocked}
-use Rattle.demands.proofs.Cases.{if-all, if-cases, settle-all, turn-device, given-token, after-all}
+use Rattle.demands.proofs.Cases.{if-all, if-cases, settle-all, turn-device, call-cases, after-all}
 
 -- a byte other than 55 stays so where another is stored, or one other than 55
 set-elsewhere : (c : List ℕ) (i n b : ℕ) → (i ≡ n → ⊥) → locked (byte n c) ≡ true → locked (byte n (set c i b)) ≡ true
@@ -164,9 +165,13 @@ module _ (n : ℕ) (at-lock : 86 ≤ n) where
       let c : Command = commandOf (opcodeOf b) in
       settle-all LeavesPlan (ruleOf c d (fieldsOf b) (inputOf b) supplied) (effect-leaves c d (fieldsOf b) (inputOf b) supplied) none none
 
+  call-shut : (s : Token) (c : Call) → Shut (s .device) → Shut (given s c .token .device)
+  call-shut s c h =
+      call-cases (λ (o : Outcome) (_ : List ℕ). Shut (o .token .device)) s c h h
+      (λ _ _. turn-device Shut (s .device) (s .power) (c .event) (c .random) h h (λ b. plan-leaves (s .device) b (c .random) (s .device) h))
+
   pub run-shut : (s : Token) (cs : List Call) → Shut (s .device) → Shut (after s cs .device)
-  run-shut = after-all (λ (s : Token). Shut (s .device)) (λ s c h. given-token (λ (t : Token). Shut (t .device)) s c h
-      (turn-device Shut (s .device) (s .power) (c .event) (c .random) h h (λ b. plan-leaves (s .device) b (c .random) (s .device) h)))
+  run-shut = after-all (λ (s : Token). Shut (s .device)) call-shut
 
 pub stays-locked : (s : Token) (cs : List Call) → StaysLocked s cs
 stays-locked s cs = record { config = run-shut 87 (omega arith) s cs; values = run-shut 86 (omega arith) s cs }

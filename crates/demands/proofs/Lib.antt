@@ -3,3 +3,4 @@ pub mod Cases
 pub mod Answers
 pub mod Locked
 pub mod Demand1
+pub mod Soundings

@@ -18,6 +18,11 @@ use Rattle.token.specs.declared.Outcome.{Outcome}
 use Rattle.token.specs.Outcome.{outcome, unchanged}
 use Rattle.demands.specs.Calls.{Call, turnOf, given, outputOf, after}
 
+-- a test says one or the other
+pub either : {A : Type 0} (t : Bool) → (t ≡ true → A) → (t ≡ false → A) → A
+either true p q = p refl
+either false p q = q refl
+
 -- what holds of both cases holds of either
 pub if-all : {A : Type 0} (P : A → Type 0) (t : Bool) {x y : A} → P x → P y → P (if t then x else y)
 if-all P true p q = p
@@ -34,15 +39,17 @@ pub settle-all : (P : Plan → Type 0) (r : Rule) → (r .shape ≡ true → r .
 settle-all P r effect refused misshapen =
     if-cases P (r .shape) (λ s. if-cases P (r .free) (λ f. effect s f) (λ _. refused)) (λ _. misshapen)
 
--- the device after an event: as it was, with TempKey emptied, or after a whole block's plan
+-- the device after an event: as it was, with TempKey emptied, or, Awake, after a whole block's plan
 pub turn-device : (P : Device → Type 0) (d : Device) (p : Power) (e : Event) (supplied : List ℕ) → P d → P (withTempKey emptied d)
-    → ((b : List ℕ) → P (apply (planFor d b supplied) d)) → P (turn d p e supplied .device)
+    → ((b : List ℕ) → e ≡ block b → isAwake p ≡ true → whole b ≡ true → P (apply (planFor d b supplied) d)) → P (turn d p e supplied .device)
 unfolding wakeTurn idleTurn sleepTurn blockTurn
 turn-device P d p wake supplied same emptied planned = if-all (λ (t : Turn). P (t .device)) (isAwake p) same same
 turn-device P d p idle supplied same emptied planned = same
 turn-device P d p sleep supplied same emptied planned = emptied
 turn-device P d p (block b) supplied same emptied planned =
-    if-all (λ (t : Turn). P (t .device)) (isAwake p) (if-all (λ (t : Turn). P (t .device)) (whole b) (planned b) same) same
+    if-cases (λ (t : Turn). P (t .device)) (isAwake p)
+    (λ a. if-cases (λ (t : Turn). P (t .device)) (whole b) (λ w. planned b refl a w) (λ _. same))
+    (λ _. same)
 
 -- what an event gives a call whose buffers are right, and the output after it
 abbrev pub turned : Turn → Outcome

@@ -3,4 +3,6 @@ pub mod Cases
 pub mod Answers
 pub mod Locked
 pub mod Demand1
+pub mod TempKey
+pub mod Incident
 pub mod Soundings

@@ -168,7 +168,7 @@ module _ (n : ℕ) (at-lock : 86 ≤ n) where
   call-shut : (s : Token) (c : Call) → Shut (s .device) → Shut (given s c .token .device)
   call-shut s c h =
       call-cases (λ (o : Outcome) (_ : List ℕ). Shut (o .token .device)) s c h h
-      (λ _ _. turn-device Shut (s .device) (s .power) (c .event) (c .random) h h (λ b. plan-leaves (s .device) b (c .random) (s .device) h))
+      (λ _ _. turn-device Shut (s .device) (s .power) (c .event) (c .random) h h (λ b _ _ _. plan-leaves (s .device) b (c .random) (s .device) h))
 
   pub run-shut : (s : Token) (cs : List Call) → Shut (s .device) → Shut (after s cs .device)
   run-shut = after-all (λ (s : Token). Shut (s .device)) call-shut

@@ -1,5 +1,5 @@
 -- The soundings: the checker computes each from the definitions.
-use mathlib.Core.Path.{_≡_, refl}
+use mathlib.Core.Path.{refl}
 use lib.Count.{ones, leadingZeros}
 use Rattle.digest.specs.Sha256.{K, H0, pad, words, next, scheduleTo, round, rounds, plus, compress, hash, sha256}
 use Rattle.wire.specs.Wire.{bitIn, bitsIn, checkFrom, checkValue, lowFirst, counted, frame, lowFirstAt, whole}

@@ -3,4 +3,5 @@ pub mod Calls
 pub mod Demand1
 pub mod Demand3
 pub mod Locked
+pub mod Incident
 pub mod Soundings

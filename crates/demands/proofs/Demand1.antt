@@ -32,7 +32,8 @@ use Rattle.token.specs.declared.Token.{Token}
 use Rattle.token.specs.declared.Outcome.{Outcome}
 use Rattle.demands.specs.Calls.{Call, turnOf, given, outputOf, answerOf}
 use Rattle.demands.specs.Demand1.{Demand1, withEmptied}
-use Rattle.demands.proofs.Cases.{if-all, settle-all, turned, answered, call-cases}
+use Rattle.demands.proofs.Cases.{settle-all}
+use Rattle.demands.proofs.Calling.{if-either, turned, answered, call-cases}
 use Rattle.demands.proofs.Answers.{frame-same, frame-some, front-answer, length-digest}
 
 length-mac : (d : Device) (f : Fields) (input : List ℕ) → length (macDigest d f input) ≡ 32
@@ -41,7 +42,7 @@ length-mac d f input = length-digest _
 
 length-used : (config supplied : List ℕ) → length supplied ≡ 32 → length (usedRandom config supplied) ≡ 32
 unfolding usedRandom fourTimes
-length-used config supplied e = if-all (λ (l : List ℕ). length l ≡ 32) (configLocked config) e refl
+length-used config supplied e = if-either (λ (l : List ℕ). length l ≡ 32) (configLocked config) e refl
 
 -- a status n that refuses: 03 or 0F lie between the others
 module _ (n : ℕ) (above : 2 ≤ n) (below : n ≤ 16) (d : Device) where
@@ -60,19 +61,19 @@ module _ (n : ℕ) (above : 2 ≤ n) (below : n ≤ 16) (d : Device) where
   effect-harmless aRead f input supplied h = λ _. refl
   effect-harmless aMac f input supplied h = long (macDigest d f input) (length-mac d f input)
   effect-harmless aWrite f input supplied h =
-      if-all Harmless (encrypted (d .config) f)
-      (if-all Harmless (equal (writeMac d f input) (bytes 32 63 input)) (unlike Done (omega arith)) (λ _. refl))
+      if-either Harmless (encrypted (d .config) f)
+      (if-either Harmless (equal (writeMac d f input) (bytes 32 63 input)) (unlike Done (omega arith)) (λ _. refl))
       (unlike Done (omega arith))
   effect-harmless aGenDig f input supplied h = unlike Done (omega arith)
   effect-harmless aNonce f input supplied h =
-      if-all Harmless (f .param1 is 3) (unlike Done (omega arith)) (long (usedRandom (d .config) supplied) (length-used (d .config) supplied h))
+      if-either Harmless (f .param1 is 3) (unlike Done (omega arith)) (long (usedRandom (d .config) supplied) (length-used (d .config) supplied h))
   effect-harmless aLock f input supplied h = unlike Done (omega arith)
   effect-harmless aRandom f input supplied h = λ _. refl
   effect-harmless aDeriveKey f input supplied h =
-      if-all Harmless (asksMac (d .config) f ⇒ equal (deriveKeyMac d f) input) (unlike Done (omega arith)) (λ _. refl)
+      if-either Harmless (asksMac (d .config) f ⇒ equal (deriveKeyMac d f) input) (unlike Done (omega arith)) (λ _. refl)
   effect-harmless anUpdateExtra f input supplied h = unlike Done (omega arith)
   effect-harmless aCheckMac f input supplied h =
-      unlike (checkMacStatus same) (if-all (λ (s : Status). statusByte s ≤ 1) same (omega arith) (omega arith))
+      unlike (checkMacStatus same) (if-either (λ (s : Status). statusByte s ≤ 1) same (omega arith) (omega arith))
     where
       same : Bool
       same = equal (checkMacDigest d f input) (response input)
@@ -99,12 +100,12 @@ module _ (n : ℕ) (above : 2 ≤ n) (below : n ≤ 16) (s : Token) where
 
   turn-refuses : (e : Event) (supplied : List ℕ) → length supplied ≡ 32 → Refuses (turn (s .device) (s .power) e supplied)
   unfolding wakeTurn idleTurn sleepTurn blockTurn
-  turn-refuses wake supplied h = if-all Refuses (isAwake (s .power)) mute (unsaid Woken (omega arith))
+  turn-refuses wake supplied h = if-either Refuses (isAwake (s .power)) mute (unsaid Woken (omega arith))
   turn-refuses idle supplied h = mute
   turn-refuses sleep supplied h = mute
   turn-refuses (block b) supplied h =
-      if-all Refuses (isAwake (s .power))
-      (if-all Refuses (whole b)
+      if-either Refuses (isAwake (s .power))
+      (if-either Refuses (whole b)
       (λ e. let same = plan-harmless n above below (s .device) b supplied h (frame-same _ _ e) in cc)
       (unsaid Damaged (omega arith)))
       mute
@@ -142,7 +143,7 @@ Unchanged s out t = (turned t .token ≡ s) × (numberFor (t .answer) ≡ Answer
 damaged-turn : (s : Token) (b supplied out : List ℕ) → whole b ≡ false → Unchanged s out (blockTurn (s .device) (s .power) b supplied)
 unfolding blockTurn
 damaged-turn s b supplied out h =
-    if-all (Unchanged s out) (isAwake (s .power))
+    if-either (Unchanged s out) (isAwake (s .power))
     (rw h (refl, λ _. front-answer (frame (statusByte Damaged ∷ [])) _))
     (refl, λ e. absurd (omega (arith, ap numberOf e)))
 

@@ -32,7 +32,8 @@ use Rattle.token.specs.declared.Token.{Token}
 use Rattle.token.specs.declared.Outcome.{Outcome}
 use Rattle.demands.specs.Calls.{Call, given, after}
 use Rattle.demands.specs.Locked.{StaysLocked}
-use Rattle.demands.proofs.Cases.{if-all, if-cases, settle-all, turn-device, call-cases, after-all}
+use Rattle.demands.proofs.Cases.{if-all, settle-all}
+use Rattle.demands.proofs.Calling.{if-either, turn-device, call-cases, after-all}
 
 -- a byte other than 55 stays so where another is stored, or one other than 55
 set-elsewhere : (c : List ℕ) (i n b : ℕ) → (i ≡ n → ⊥) → locked (byte n c) ≡ true → locked (byte n (set c i b)) ≡ true
@@ -107,20 +108,20 @@ module _ (n : ℕ) (at-lock : 86 ≤ n) where
   -- the stores of uses, of a key that is rolled, of a write
   spent : (config : List ℕ) (k : Slot) → Leaves (spend config k)
   unfolding spend
-  spent config k = if-all Leaves (limited config k) (one (useAt config k) _ (omega (arith, use-within config k))) none
+  spent config k = if-either Leaves (limited config k) (one (useAt config k) _ (omega (arith, use-within config k))) none
 
   refills : (config : List ℕ) (k : Slot) → Leaves (refilled config k)
   unfolding refilled
   refills config k =
-      if-all Leaves (index k under 8)
+      if-either Leaves (index k under 8)
       (more (inConfig _ _ ∷ []) (inConfig _ _ ∷ []) (one _ _ (omega arith)) (one _ _ (omega arith)))
       none
 
   writes : (d : Device) (f : Fields) (value : List ℕ) → (zone f is 0 ≡ true → position f + length value ≤ 84) → Leaves (written d f value)
   unfolding written
   writes d f value fits =
-      if-cases Leaves (zone f is 0) (λ z. row inConfig 84 (λ i b l. one i b (omega arith)) (position f) value (fits z))
-      (λ _. if-all Leaves (zone f is 1) (row-otp (position f) (otpWritten d f value)) (row-data (position f) value))
+      if-all Leaves (zone f is 0) _ _ (λ z. row inConfig 84 (λ i b l. one i b (omega arith)) (position f) value (fits z))
+      (λ _. if-either Leaves (zone f is 1) (row-otp (position f) (otpWritten d f value)) (row-data (position f) value))
 
   -- a plan whose stores do
   abbrev LeavesPlan : Plan → Type 0
@@ -130,32 +131,32 @@ module _ (n : ℕ) (at-lock : 86 ≤ n) where
       → LeavesPlan (writeEffect d f input)
   unfolding writeEffect encrypted
   write-leaves d f input shape free =
-      if-cases LeavesPlan (encrypted (d .config) f)
-      (λ e. if-all LeavesPlan (equal (writeMac d f input) (bytes 32 63 input)) (writes d f (plain d input) (λ z. absurd (false≢true (rw z at e)))) none)
+      if-all LeavesPlan (encrypted (d .config) f) _ _
+      (λ e. if-either LeavesPlan (equal (writeMac d f input) (bytes 32 63 input)) (writes d f (plain d input) (λ z. absurd (false≢true (rw z at e)))) none)
       (λ _. writes d f input (config-fits d f input shape free))
 
   effect-leaves : (c : Command) (d : Device) (f : Fields) (input supplied : List ℕ) → ruleOf c d f input supplied .shape ≡ true
       → ruleOf c d f input supplied .free ≡ true → LeavesPlan (ruleOf c d f input supplied .effect)
   unfolding read mac write genDig nonce lock random deriveKey updateExtra checkMac devRev keySpent genDigSpent nonceInput nonceRandom checkMacEffect derived deriveKeyStores
   effect-leaves aRead d f input supplied shape free = none
-  effect-leaves aMac d f input supplied shape free = if-all Leaves (drawsKey f) (spent (d .config) (key f)) none
+  effect-leaves aMac d f input supplied shape free = if-either Leaves (drawsKey f) (spent (d .config) (key f)) none
   effect-leaves aWrite d f input supplied shape free = write-leaves d f input shape free
-  effect-leaves aGenDig d f input supplied shape free = if-all Leaves (fromData f) (spent (d .config) (key f)) none
-  effect-leaves aNonce d f input supplied shape free = if-all LeavesPlan (f .param1 is 3) none none
+  effect-leaves aGenDig d f input supplied shape free = if-either Leaves (fromData f) (spent (d .config) (key f)) none
+  effect-leaves aNonce d f input supplied shape free = if-either LeavesPlan (f .param1 is 3) none none
   effect-leaves aLock d f input supplied shape free = λ e h. set-locked (e .config) _ n 0x00 refl h
   effect-leaves aRandom d f input supplied shape free = none
   effect-leaves aDeriveKey d f input supplied shape free =
       let config : List ℕ = d .config in
       let used : List Store = if parentDrawn config f then spend config (parent config f) else [] in
       let target : List Store = upwards inData _ (newTarget d f) in
-      if-all LeavesPlan (asksMac config f ⇒ equal (deriveKeyMac d f) input)
+      if-either LeavesPlan (asksMac config f ⇒ equal (deriveKeyMac d f) input)
       (more (used ++ target) (refilled config (key f))
-      (more used target (if-all Leaves (parentDrawn config f) (spent config (parent config f)) none) (row-data _ (newTarget d f)))
+      (more used target (if-either Leaves (parentDrawn config f) (spent config (parent config f)) none) (row-data _ (newTarget d f)))
       (refills config (key f)))
       none
   effect-leaves anUpdateExtra d f input supplied shape free =
-      one _ _ (if-all (λ (at : ℕ). at < 86) (f .param1 is 1) (omega arith) (omega arith))
-  effect-leaves aCheckMac d f input supplied shape free = if-all Leaves (drawsKey f) (spent (d .config) (key f)) none
+      one _ _ (if-either (λ (at : ℕ). at < 86) (f .param1 is 1) (omega arith) (omega arith))
+  effect-leaves aCheckMac d f input supplied shape free = if-either Leaves (drawsKey f) (spent (d .config) (key f)) none
   effect-leaves aDevRev d f input supplied shape free = none
   effect-leaves unknown d f input supplied shape free = none
 

@@ -23,7 +23,7 @@ use Rattle.rules.specs.Upkeep.{lock, lockFree, summary, updateExtra, devRev}
 use Rattle.rules.specs.Commands.{Command, aRead, aMac, aWrite, aGenDig, aNonce, aLock, aRandom, aDeriveKey, anUpdateExtra, aCheckMac, aDevRev, unknown, ruleOf, planOf}
 use Rattle.rules.proofs.Tests.{and-left, and-right, or-left, or-right}
 use Rattle.demands.specs.Incident.{needsTempKey}
-use Rattle.demands.proofs.Cases.{if-cases}
+use Rattle.demands.proofs.Cases.{if-all, if-same}
 
 -- a TempKey that is not Valid
 module _ (d : Device) (f : Fields) (empty : d .tempKey .valid ≡ false) where
@@ -61,14 +61,16 @@ module _ (d : Device) (f : Fields) (empty : d .tempKey .valid ≡ false) where
   unfolding unlockedWriteFree encrypts
   unlocked-unmet u = rw (u, empty, and-false)
 
+  values-unmet : zone f is 0 ≡ false → encrypted (d .config) f ≡ true
+      → (if valuesLocked (d .config) then lockedWriteFree d f else unlockedWriteFree d f) ≡ false
+  unfolding encrypted
+  values-unmet z u =
+      if-all (λ (x : Bool). x ≡ false) (valuesLocked (d .config)) _ _ (λ l. locked-unmet (rw (z, l) at u)) (λ l. unlocked-unmet (rw (z, l) at u))
+
   write-unmet : (input : List ℕ) → encrypted (d .config) f ≡ true → writeFree d f input ≡ false
   unfolding encrypted writeFree
   write-unmet input u =
-      if-cases (λ (x : Bool). x ≡ false) (zone f is 0) (λ z. absurd (false≢true (rw z at u)))
-      (λ z.
-      let e : (if valuesLocked (d .config) then lockedWriteFree d f else unlockedWriteFree d f) ≡ false =
-      if-cases (λ (x : Bool). x ≡ false) (valuesLocked (d .config)) (λ l. locked-unmet (rw (z, l) at u)) (λ l. unlocked-unmet (rw (z, l) at u)) in
-      rw (e, and-false))
+      if-all (λ (x : Bool). x ≡ false) (zone f is 0) _ _ (λ z. absurd (false≢true (rw z at u))) (λ z. rw (values-unmet z u, and-false))
 
   -- the conditions of a command that uses TempKey are not met
   pub unmet : (c : Command) (input supplied : List ℕ) → needsTempKey c d f ≡ true → ruleOf c d f input supplied .free ≡ false
@@ -89,14 +91,13 @@ module _ (d : Device) (f : Fields) (empty : d .tempKey .valid ≡ false) where
 -- ---- and no other
 
 -- two rules of one shape come to the same if their conditions and effects are the same in that shape
-settle-same : (shape : Bool) (a b : Bool) (p q : Plan) → (shape ≡ true → a ≡ b) → (shape ≡ true → p ≡ q)
+shape-same : (shape : Bool) (a b : Bool) (p q : Plan) → (shape ≡ true → a ≡ b) → (shape ≡ true → p ≡ q)
     → settle (record { shape = shape; free = a; effect = p }) ≡ settle (record { shape = shape; free = b; effect = q })
-settle-same true a b p q e k = rw (e refl, k refl)
-settle-same false a b p q e k = refl
+shape-same true a b p q e k = rw (e refl, k refl)
+shape-same false a b p q e k = refl
 
-if-same : {A : Type 0} (t : Bool) {x y z w : A} → (t ≡ true → x ≡ z) → (t ≡ false → y ≡ w) → (if t then x else y) ≡ (if t then z else w)
-if-same true e k = e refl
-if-same false e k = k refl
+and-middle : (a b c : Bool) → (a && b && c) ≡ true → b ≡ true
+and-middle a b c h = and-right a b (and-left (a && b) c h)
 
 -- an address in its shape that is neither of configuration nor of OTP is of data
 data-zone : (f : Fields) → addressFits f ≡ true → zone f is 0 ≡ false → zone f is 1 ≡ false → zone f is 2 ≡ true
@@ -139,12 +140,12 @@ module _ (d : Device) (t : TempKey) (f : Fields) where
     read-same : settle (read e f input) ≡ settle (read d f input)
     unfolding read readShape
     read-same =
-        settle-same (readShape f input) (readFree e f) (readFree d f) (gives (readBytes e f)) (gives (readBytes d f))
+        shape-same (readShape f input) (readFree e f) (readFree d f) (gives (readBytes e f)) (gives (readBytes d f))
         (λ s. read-free-same (fits s))
         (λ s. ap gives (read-bytes-same (fits s)))
       where
         fits : readShape f input ≡ true → addressFits f ≡ true
-        fits s = and-right (onlyBits (7 ∷ 1 ∷ 0 ∷ []) (f .param1)) (addressFits f) (and-left (onlyBits (7 ∷ 1 ∷ 0 ∷ []) (f .param1) && addressFits f) _ s)
+        fits s = and-middle (onlyBits (7 ∷ 1 ∷ 0 ∷ []) (f .param1)) (addressFits f) _ s
 
   -- a write that is not encrypted
   module _ (input : List ℕ) (u : encrypted (d .config) f ≡ false) where
@@ -169,12 +170,12 @@ module _ (d : Device) (t : TempKey) (f : Fields) where
     write-same : settle (write e f input) ≡ settle (write d f input)
     unfolding write writeShape writeEffect written otpWritten
     write-same =
-        settle-same (writeShape f input) (writeFree e f input) (writeFree d f input) (writeEffect e f input) (writeEffect d f input)
+        shape-same (writeShape f input) (writeFree e f input) (writeFree d f input) (writeEffect e f input) (writeEffect d f input)
         (λ s. write-free-same (fits s))
         (λ s. rw u)
       where
         fits : writeShape f input ≡ true → addressFits f ≡ true
-        fits s = and-right (onlyBits (7 ∷ 6 ∷ 1 ∷ 0 ∷ []) (f .param1)) (addressFits f) (and-left (onlyBits (7 ∷ 6 ∷ 1 ∷ 0 ∷ []) (f .param1) && addressFits f) _ s)
+        fits s = and-middle (onlyBits (7 ∷ 6 ∷ 1 ∷ 0 ∷ []) (f .param1)) (addressFits f) _ s
 
 pub others-same : (c : Command) (d : Device) (t : TempKey) (f : Fields) (input supplied : List ℕ) → needsTempKey c d f ≡ false
     → planOf c (withTempKey t d) f input supplied ≡ planOf c d f input supplied

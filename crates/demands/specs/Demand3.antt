@@ -1,19 +1,17 @@
 -- Demand 3. "Take two tokens under demand 2's rules, both zones locked, alike but for one slot whose bits say secret and never read. Give both
 -- the same calls. Until the first command other than MAC that draws on that slot, all answers are equal and the tokens differ at most in that
 -- slot, save that a MAC drawing on it answers a digest that may differ, and its check value with it."
-use Prim.Native.Nat.{ℕ, _/_, _<_, _≤_}
+use Prim.Native.Nat.{ℕ, _/_}
 use mathlib.Core.Path.{_≡_}
-use mathlib.Core.Bool.{Bool, true, false, not, _&&_, _||_}
+use mathlib.Core.Bool.{Bool, true, false, _&&_, _||_}
 use mathlib.Core.List.{List, [], _∷_}
 use lib.ListN.{length, take, drop}
-use Rattle.wire.specs.Wire.{if_then_else_}
-use Rattle.rules.specs.declared.Device.{Device}
 use Rattle.rules.specs.declared.Slot.{Slot}
 use Rattle.rules.specs.Words.{_⇒_, _is_, byte}
 use Rattle.rules.specs.State.{index, bothLocked, isSecret, encryptRead}
 use Rattle.rules.specs.Commands.{Command, aRead, aMac, aWrite, aGenDig, aNonce, aLock, aRandom, aDeriveKey, anUpdateExtra, aCheckMac, aDevRev, unknown}
 use Rattle.token.specs.declared.Token.{Token}
-use Rattle.demands.specs.Calls.{Call, given, outputOf, commandIn, draws, after}
+use Rattle.demands.specs.Calls.{Call, given, outputOf, commandIn, draws}
 
 -- Two tokens are alike but for a slot: every byte and field outside its 32 bytes of the data zone is equal.
 pub record Alike (k : Slot) (s t : Token) : Type 0 where
@@ -57,20 +55,20 @@ unfoldable pub spared : Slot → Token → List Call → Bool
 spared k s [] = true
 spared k s (c ∷ cs) = (drawsOn k s c ⇒ isMac (commandIn c)) && spared k (given s c .token) cs
 
--- What one call shows in two tokens: number and length are equal, and so is the whole output buffer; a MAC that draws on the slot may
--- differ in bytes 1 to 34 of it. Both draw on the same slots.
+-- What one call shows in two tokens: both draw on the same slots, number and length are equal, and so is the whole output buffer, save that
+-- a MAC that draws on the slot may differ in bytes 1 to 34 of it.
 pub record SameCall (k : Slot) (s t : Token) (c : Call) : Type 0 where
+  pub draws : draws s c ≡ draws t c
   pub number : given s c .number ≡ given t c .number
   pub length : given s c .length ≡ given t c .length
   pub output : drawsOn k s c ≡ false → outputOf s c ≡ outputOf t c
   pub front : take 1 (outputOf s c) ≡ take 1 (outputOf t c)
   pub rest : drop 35 (outputOf s c) ≡ drop 35 (outputOf t c)
-  pub draws : draws s c ≡ draws t c
 
--- call by call, and the tokens stay alike but for the slot
+-- call by call: before each call and after the last the tokens are alike but for the slot
 abbrev pub SameRun : Slot → Token → Token → List Call → Type 0
 SameRun k s t [] = Alike k s t
-SameRun k s t (c ∷ cs) = SameCall k s t c × SameRun k (given s c .token) (given t c .token) cs
+SameRun k s t (c ∷ cs) = Alike k s t × SameCall k s t c × SameRun k (given s c .token) (given t c .token) cs
 
 pub record Demand3 (k : Slot) (s t : Token) (cs : List Call) : Type 0 where
   -- as long as no call other than MAC draws on the slot

@@ -1,0 +1,68 @@
+-- Calls on a token, what they give, and runs of calls: what the demands speak of.
+use Prim.Native.Nat.{ℕ}
+use mathlib.Core.Bool.{Bool, false, _&&_}
+use mathlib.Core.List.{List, [], _∷_}
+use lib.ListN.{length}
+use Rattle.wire.specs.Wire.{if_then_else_, whole}
+use Rattle.rules.specs.declared.Slot.{Slot}
+use Rattle.rules.specs.Words.{_is_, _upTo_}
+use Rattle.rules.specs.State.{isAwake}
+use Rattle.rules.specs.Commands.{Command, commandOf}
+use Rattle.rules.specs.Events.{Event, wake, idle, sleep, block, Turn, turn, planFor, opcodeOf, outputAfter, frontOf}
+use Rattle.token.specs.declared.Token.{Token}
+use Rattle.token.specs.declared.Outcome.{Outcome}
+use Rattle.token.specs.Outcome.{outcome}
+
+-- A call is an event with its block, its random bytes and its output buffer, all of any content and length.
+pub record Call : Type 0 where
+  pub event : Event
+  pub random : List ℕ
+  pub output : List ℕ
+
+abbrev pub turnOf : Token → Call → Turn
+turnOf s c = turn (s .device) (s .power) (c .event) (c .random)
+
+-- what a call gives: number, length and the token after it; and the output buffer after it
+abbrev pub given : Token → Call → Outcome
+given s c = outcome s (turnOf s c) (c .random) (c .output)
+
+abbrev pub outputOf : Token → Call → List ℕ
+outputOf s c = outputAfter (turnOf s c) (c .random) (c .output)
+
+-- the answer that is handed back: the front part of the output
+abbrev pub answerOf : Token → Call → List ℕ
+answerOf s c = frontOf (given s c .length) (outputOf s c)
+
+-- ---- drawing on a slot
+
+-- the buffers are right: numbers 1 and 2 do not apply
+abbrev pub buffersFit : Call → Bool
+buffersFit c = 35 upTo length (c .output) && length (c .random) is 32
+
+-- the command that a call runs: a whole block given to a token that is Awake, with buffers that are right
+unfoldable pub runs : Token → Call → Bool
+runs s c = buffersFit c && isAwake (s .power) && wholeBlock (c .event) where
+  wholeBlock : Event → Bool
+  wholeBlock wake = false
+  wholeBlock idle = false
+  wholeBlock sleep = false
+  wholeBlock (block b) = whole b
+
+abbrev pub blockOf : Event → List ℕ
+blockOf wake = []
+blockOf idle = []
+blockOf sleep = []
+blockOf (block b) = b
+
+abbrev pub commandIn : Call → Command
+commandIn c = commandOf (opcodeOf (blockOf (c .event)))
+
+-- the slots that a call draws on
+unfoldable pub draws : Token → Call → List Slot
+draws s c = if runs s c then planFor (s .device) (blockOf (c .event)) (c .random) .draws else []
+
+-- ---- runs
+
+abbrev pub after : Token → List Call → Token
+after s [] = s
+after s (c ∷ cs) = after (given s c .token) cs

@@ -224,13 +224,11 @@ impl Token {
         }
         let mut device = self.device;
         device.tempKey = replies::emptied_key();
-        left(
-            Token {
-                device,
-                power: Power::Asleep,
-            },
-            Number::NoAnswer,
-        )
+        let token = Token {
+            device,
+            power: Power::Asleep,
+        };
+        left(token, Number::NoAnswer)
     }
 
     pub fn block(self, block: &[u8], random: &[u8], output: &mut [u8]) -> Outcome

@@ -1,0 +1,26 @@
+-- The public functions of crate `messages`.
+use Rattle.messages.proofs.header_of.Reads as header-of
+use Rattle.messages.proofs.nonce_digest.Reads as nonce-digest
+use Rattle.messages.proofs.layout96_digest.Reads as layout96-digest
+use Rattle.messages.proofs.parent_digest.Reads as parent-digest
+use Rattle.messages.proofs.mac_digest.Reads as mac-digest
+use Rattle.messages.proofs.check_mac_digest.Reads as check-mac-digest
+use Rattle.promises.proofs.Fixed.{Fixed, one}
+
+pub header-of-fixed : Fixed header-of.Pre header-of.Post
+header-of-fixed = record { total = λ κs a. tt; one = λ κs a x y l m p q. one p q }
+
+pub nonce-digest-fixed : Fixed nonce-digest.Pre nonce-digest.Post
+nonce-digest-fixed = record { total = λ κs a. tt; one = λ κs a x y l m p q. one p q }
+
+pub layout96-digest-fixed : Fixed layout96-digest.Pre layout96-digest.Post
+layout96-digest-fixed = record { total = λ κs a. tt; one = λ κs a x y l m p q. one p q }
+
+pub parent-digest-fixed : Fixed parent-digest.Pre parent-digest.Post
+parent-digest-fixed = record { total = λ κs a. tt; one = λ κs a x y l m p q. one p q }
+
+pub mac-digest-fixed : Fixed mac-digest.Pre mac-digest.Post
+mac-digest-fixed = record { total = λ κs a. tt; one = λ κs a x y l m p q. one p q }
+
+pub check-mac-digest-fixed : Fixed check-mac-digest.Pre check-mac-digest.Post
+check-mac-digest-fixed = record { total = λ κs a. tt; one = λ κs a x y l m p q. one p q }

@@ -1,6 +1,6 @@
 -- Tests: both halves of an `&&`, both halves of an `||`, an `iff` or a `⇒` with one half known, and the tests that a branch gives.
 use Prim.Native.Nat.{ℕ, _^_, _≤_, _<_}
-use mathlib.Core.Path.{_≡_, refl}
+use mathlib.Core.Path.{_≡_, refl, sym, _∙_}
 use mathlib.Core.Bool.{Bool, true, false, not, _&&_, _||_, Bool·beq}
 use native.Mathlib.Omega.{arith}
 use native.Mathlib.Nat.{div-eq-of-lt, lt-of-lt-of-le, pow-le-pow-right}
@@ -24,6 +24,11 @@ or-left false b h = refl
 pub or-right : (a b : Bool) → (a || b) ≡ false → b ≡ false
 or-right true b h = cc
 or-right false b h = h
+
+-- what an `||` gives where its second half does not hold
+pub or-first : (a b : Bool) → (a || b) ≡ true → b ≡ false → a ≡ true
+or-first true b h k = refl
+or-first false b h k = sym k ∙ h
 
 pub iff-true : (b : Bool) → (b iff true) ≡ b
 iff-true true = refl
@@ -56,6 +61,9 @@ same true true t = refl
 same false false t = refl
 same true false t = absurd t
 same false true t = absurd t
+
+pub iff-same : (a b : Bool) → (a iff b) ≡ true → a ≡ b
+iff-same a b h = same a b (rw h tt)
 
 -- the tests that a branch gives: `search tests` rewrites a rule's cases by them
 pub ruleset tests = (eq-eqb, ne-eqb, lt-ltb, le-ltb, le-leb, lt-leb)

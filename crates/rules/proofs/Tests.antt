@@ -1,6 +1,6 @@
 -- Tests: both halves of an `&&` or an `||`, an `iff` or a `⇒` with one half known, a bound by cases, a bit that is not there, and the tests that a branch gives.
 use Prim.Native.Nat.{ℕ, _^_, _≤_, _<_}
-use mathlib.Core.Path.{_≡_, refl}
+use mathlib.Core.Path.{_≡_, refl, sym, _∙_}
 use mathlib.Core.Bool.{Bool, true, false, not, _&&_, _||_, Bool·beq}
 use native.Mathlib.Omega.{arith}
 use native.Mathlib.Nat.{div-eq-of-lt, lt-of-lt-of-le, pow-le-pow-right}
@@ -23,6 +23,11 @@ or-left false b h = refl
 pub or-right : (a b : Bool) → (a || b) ≡ false → b ≡ false
 or-right true b h = cc
 or-right false b h = h
+
+-- what an `||` gives where its second half does not hold
+pub or-first : (a b : Bool) → (a || b) ≡ true → b ≡ false → a ≡ true
+or-first true b h k = refl
+or-first false b h k = sym k ∙ h
 
 pub iff-true : (b : Bool) → (b iff true) ≡ b
 iff-true true = refl
@@ -54,6 +59,9 @@ iff-same true true h = refl
 iff-same false false h = refl
 iff-same true false h = cc
 iff-same false true h = cc
+
+pub iff-same : (a b : Bool) → (a iff b) ≡ true → a ≡ b
+iff-same a b h = same a b (rw h tt)
 
 -- the tests that a branch gives: `search tests` rewrites a rule's cases by them
 pub ruleset tests = (eq-eqb, ne-eqb, lt-ltb, le-ltb, le-leb, lt-leb)

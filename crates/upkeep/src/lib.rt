@@ -3,7 +3,7 @@ ghost use mathlib.Core.Path.{_≡_};
 ghost use mathlib.Core.Bool.{_||_};
 ghost use Prim.Native.Nat.{_%_};
 ghost use Rattle.wire.specs.Wire.{if_then_else_};
-ghost use Rattle.rules.specs.Words.{_is_};
+ghost use Rattle.rules.specs.Words.{_⇒_, _is_};
 ghost use Rattle.rules.specs.State.{userExtraAt, selectorAt, lockValueAt, lockConfigAt};
 ghost use Rattle.rules.specs.Plan.{inConfig, store, reply, settle};
 ghost use Rattle.rules.specs.Upkeep.{ofValues, skipsSummary, lockShape, summary, zoneOpen, lock, updateExtraShape, updateExtraFree, updateExtra, devRevShape, devRev};
@@ -12,22 +12,26 @@ use rules::Fields;
 use rules::Reply;
 use rules::Status;
 
+// Bit 7 skips the summary: Param2 is then 0.
+fn param2_fits(f: Fields) -> bool
+    ensures { λ r. ⌜ r ≡ (skipsSummary f ⇒ f .param2 is 0) ⌝ }
+{
+    if f.param1 / 128 % 2 == 1 {
+        f.param2 == 0
+    } else {
+        true
+    }
+}
+
 fn lock_shape(f: Fields, input: &[u8]) -> bool
     ensures { λ r. ⌜ r ≡ lockShape f (now (input .entry)) ⌝ }
 {
     if config::only_bits(0x81, f.param1) {
-        if f.param1 / 128 % 2 == 1 {
-            if f.param2 == 0 {
-                input.len() == 0
-            } else {
-                false
-            }
-        } else {
-            input.len() == 0
+        if param2_fits(f) {
+            return input.len() == 0;
         }
-    } else {
-        false
     }
+    false
 }
 
 // The check value of the 88 bytes, or of data then OTP.

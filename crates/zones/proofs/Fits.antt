@@ -1,6 +1,6 @@
 -- Addresses and lengths that fit: the 4 or 32 bytes that an address names are all there, and a value is as long as its address asks.
 use Prim.Native.Nat.{ℕ, _+_, _*_, _/_, _≤_, _<_}
-use mathlib.Core.Path.{_≡_, refl, sym, _∙_}
+use mathlib.Core.Path.{_≡_, refl, _∙_}
 use mathlib.Core.Bool.{Bool, true, false, not, _&&_, _||_}
 use mathlib.Core.List.{List, [], _∷_}
 use native.Mathlib.Omega.{arith}
@@ -12,10 +12,10 @@ use Rattle.rules.specs.declared.Device.{Device}
 use Rattle.rules.specs.declared.Fields.{Fields}
 use Rattle.rules.specs.Words.{_⇒_, _iff_, _is_, _upTo_, bit, onlyBits}
 use Rattle.rules.specs.State.{configLocked, valuesLocked}
-use Rattle.rules.specs.Address.{zone, size, word, addressFits, position}
+use Rattle.rules.specs.Address.{zone, size, addressFits, position}
 use Rattle.rules.specs.Read.{readShape}
 use Rattle.rules.specs.Write.{writeShape, hasMac, slotEncrypted, configWriteFree, encrypted, lockedWriteFree, unlockedWriteFree, writeFree, andRow}
-use Rattle.rules.proofs.Tests.{and-left, and-right, if-within}
+use Rattle.rules.proofs.Tests.{and-left, and-right, or-first, iff-same, if-within}
 use Rattle.rules.proofs.Rows.{andEach, take-each}
 use Rattle.rows.specs.Row.{row}
 use Rattle.rows.proofs.Row.{take-row}
@@ -75,10 +75,6 @@ write-shape f input h =
 pub write-fits : (f : Fields) (input : List ℕ) → writeShape f input ≡ true → addressFits f ≡ true
 write-fits f input h = write-shape f input h .0
 
-or-first : (a b : Bool) → (a || b) ≡ true → b ≡ false → a ≡ true
-or-first true b h k = refl
-or-first false b h k = sym k ∙ h
-
 clear-length : (t : Bool) (n : ℕ) → lengthFits t n ≡ true → (n is 64) ≡ false → n ≡ (if t then 32 else 4)
 unfolding lengthFits
 clear-length true n h k = eqb-true n 32 (or-first (n is 32) (n is 64) h k)
@@ -96,12 +92,6 @@ pub size-mac : (f : Fields) (input : List ℕ) → writeShape f input ≡ true �
 size-mac f input h k = mac-length (bit 7 (f .param1)) (length input) (write-shape f input h .1) (eqb-true (length input) 64 k)
 
 -- ---- MAC present exactly when encrypted
-
-both : (a b : Bool) → (a iff b) ≡ true → a ≡ b
-both true true e = refl
-both true false e = sym e
-both false true e = e
-both false false e = refl
 
 -- configuration takes no MAC
 no-mac : (config : List ℕ) (f : Fields) (input : List ℕ) → configWriteFree config f input ≡ true → hasMac input ≡ false
@@ -127,7 +117,7 @@ mac-encrypted d f input h =
     by-zone (zone f is 0) (configWriteFree (d .config) f input) (locked && same && rest) (hasMac input)
     (if valuesLocked (d .config) then zone f is 2 && slotEncrypted (d .config) f else bit 6 (f .param1))
     (no-mac (d .config) f input)
-    (λ k. both (hasMac input) (encrypted (d .config) f) (and-right locked same (and-left (locked && same) rest k)))
+    (λ k. iff-same (hasMac input) (encrypted (d .config) f) (and-right locked same (and-left (locked && same) rest k)))
     h
 
 -- ---- old AND new: what stands in the first bytes of two rows

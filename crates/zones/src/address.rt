@@ -18,20 +18,15 @@ pub fn word_of(f: Fields) -> Word
     Word(f.param2)
 }
 
-// The slot that a word of the data zone belongs to.
-pub fn slot_of(w: Word) -> Slot
-    ensures { λ r. ⌜ r ≡ slotOf w ⌝ }
+// The slot that the word belongs to.
+pub fn slot_of(f: Fields) -> Slot
+    ensures { λ r. ⌜ r ≡ slotOf (word f) ⌝ }
 {
+    let w = word_of(f);
     Slot((w.0 / 8 % 16) as u8)
 }
 
-// The slot that the fields' word belongs to.
-pub fn data_slot(f: Fields) -> Slot
-    ensures { λ r. ⌜ r ≡ slotOf (word f) ⌝ }
-{
-    slot_of(word_of(f))
-}
-
+// Configuration word 16 up is 4 bytes only.
 pub fn address_fits(f: Fields) -> bool
     ensures { λ r. ⌜ r ≡ addressFits f ⌝ }
 {

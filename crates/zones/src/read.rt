@@ -69,7 +69,7 @@ fn data_read_free(d: Device, f: Fields) -> bool
     ensures { λ r. ⌜ r ≡ dataReadFree d f ⌝ }
 {
     let c = d.config;
-    let k = address::data_slot(f);
+    let k = address::slot_of(f);
     if config::both_locked(c) {
         if config::slot_bit(7, c, k) {
             secret_read_free(d, f, k)
@@ -132,7 +132,7 @@ fn read_zone(d: Device, f: Fields) -> Reply
         }
         _ => {
             let c = d.config;
-            let k = address::data_slot(f);
+            let k = address::slot_of(f);
             if config::slot_bit(7, c, k) {
                 read_encrypted(d, k)
             } else {

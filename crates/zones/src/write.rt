@@ -3,10 +3,10 @@ ghost use mathlib.Core.Path.{_≡_};
 ghost use mathlib.Core.Bool.{true, not, _&&_, _||_};
 ghost use mathlib.Core.List.{[]};
 ghost use Prim.Native.Nat.{_+_, _≤_};
-ghost use lib.ListN.{length};
+ghost use lib.ListN.{length, take, drop};
 ghost use Rattle.digest.specs.Sha256.{sha256};
 ghost use Rattle.wire.specs.Wire.{if_then_else_};
-ghost use Rattle.rules.specs.Words.{_iff_, bit, bytes, equal};
+ghost use Rattle.rules.specs.Words.{_iff_, _is_, bit, bytes, equal};
 ghost use Rattle.rules.specs.State.{isSecret, writeConfigBit};
 ghost use Rattle.rules.specs.Plan.{inOtp, upwards, storeAll, puts, refusedAfter, reply, settle};
 ghost use Rattle.rules.specs.Messages.{header, layout96};
@@ -19,18 +19,27 @@ use rules::Reply;
 use rules::Slot;
 use rules::Status;
 
+// Data 4, 32, or 64 (value, MAC), the last two with bit 7.
+fn length_fits(f: Fields, input: &[u8]) -> bool
+    ensures { λ r. ⌜ r ≡ (if bit 7 (f .param1) then length (now (input .entry)) is 32 || length (now (input .entry)) is 64 else length (now (input .entry)) is 4) ⌝ }
+{
+    if f.param1 / 128 % 2 == 1 {
+        if input.len() == 32 {
+            true
+        } else {
+            input.len() == 64
+        }
+    } else {
+        input.len() == 4
+    }
+}
+
 fn write_shape(f: Fields, input: &[u8]) -> bool
     ensures { λ r. ⌜ r ≡ writeShape f (now (input .entry)) ⌝ }
 {
     if config::only_bits(0xC3, f.param1) {
         if address::address_fits(f) {
-            if f.param1 / 128 % 2 == 1 {
-                if input.len() == 32 {
-                    return true;
-                }
-                return input.len() == 64;
-            }
-            return input.len() == 4;
+            return length_fits(f, input);
         }
     }
     false
@@ -59,7 +68,7 @@ fn config_write_free(c: [u8; 88], f: Fields, input: &[u8]) -> bool
 fn slot_encrypted(c: [u8; 88], f: Fields) -> bool
     ensures { λ r. ⌜ r ≡ slotEncrypted c f ⌝ }
 {
-    config::slot_bit(14, c, address::data_slot(f))
+    config::slot_bit(14, c, address::slot_of(f))
 }
 
 fn is_encrypted(c: [u8; 88], f: Fields) -> bool
@@ -128,7 +137,7 @@ fn slot_write_free(d: Device, f: Fields) -> bool
 {
     let c = d.config;
     let t = d.tempKey;
-    let k = address::data_slot(f);
+    let k = address::slot_of(f);
     if slot_encrypted(c, f) {
         if address::key_encrypts(t) {
             address::key_encrypts_for(c, t, config::write_key(c, k), k)
@@ -171,7 +180,7 @@ fn write_free(d: Device, f: Fields, input: &[u8]) -> bool
     false
 }
 
-// Old AND new.
+// One row AND another, byte by byte.
 fn and_row(a: [u8; 32], b: [u8; 32]) -> [u8; 32]
     ensures { λ r. ⌜ r ≡ andRow a b ⌝ }
 {
@@ -205,6 +214,19 @@ fn mac_right(d: Device, f: Fields, value: [u8; 32], mac: [u8; 32]) -> bool
     rows::equal_rows(&right, &mac)
 }
 
+// Old AND new, in the first bytes of a row.
+fn old_and_new(d: Device, f: Fields, value: &[u8]) -> [u8; 32]
+    requires { ⌜ length (now value) ≡ size f ⌝ }
+    requires { ⌜ position f + size f ≤ 64 ⌝ }
+    ensures { λ r. ⌜ take (size f) r ≡ andRow (take (size f) (drop (position f) (d .otp))) (now (value .entry)) ⌝ }
+{
+    let z = d.otp;
+    let n = address::size_of(f);
+    let old = rows::row_of(&z, address::position_of(f), n);
+    let new = rows::row_of(value, 0, n);
+    and_row(old, new)
+}
+
 // A value stored in OTP: with values locked old AND new.
 fn write_otp(d: Device, f: Fields, value: &[u8]) -> Device
     requires { ⌜ length (now value) ≡ size f ⌝ }
@@ -214,12 +236,9 @@ fn write_otp(d: Device, f: Fields, value: &[u8]) -> Device
     let c = d.config;
     let at = address::position_of(f);
     if config::values_locked(c) {
-        let z = d.otp;
+        let row = old_and_new(d, f, value);
         let n = address::size_of(f);
-        let old = rows::row_of(&z, at, n);
-        let new = rows::row_of(value, 0, n);
-        let both = and_row(old, new);
-        stores::store_otp_row(d, at, &both[..n])
+        stores::store_otp_row(d, at, &row[..n])
     } else {
         stores::store_otp_row(d, at, value)
     }
@@ -249,8 +268,8 @@ fn write_encrypted(d: Device, f: Fields, input: &[u8]) -> Reply
     let value = plain_of(d, input);
     let mac = rows::row_of(input, 32, 32);
     if mac_right(d, f, value, mac) {
-        let after = write_value(d, f, &value);
-        replies::said(after, Status::Done)
+        let stored = write_value(d, f, &value);
+        replies::said(stored, Status::Done)
     } else {
         replies::said(d, Status::Refused)
     }

@@ -40,7 +40,7 @@ loop-again c =
     let b = c .before .before .args .t2 in
     let ha : length a ≡ 32 = search needs in
     let hb : length b ≡ 32 = search needs in
-    (omega arith, cc (each-more xorEach (zeros 32) a b (c .before .loop .i) (omega arith) (omega arith) (omega arith)))
+    (omega arith, rw (c .before .loop .inv .1) (each-more xorEach (zeros 32) a b (c .before .loop .i) (omega arith) (omega arith) (omega arith)))
 
 returns : tie.Need-returns Inv-loop μ-loop
 returns c =

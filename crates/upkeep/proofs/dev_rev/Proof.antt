@@ -27,7 +27,7 @@ returns : tie.Need-returns
 unfolding devRev
 returns c =
     let p = c .before .before .before .before in
-    let config = c .before .before .before .before .before .before .before .args .d .config in
+    let config = p .before .before .before .args .d .config in
     let shape = sym (p .before .dev-rev-shape .ensures) ∙ p .if1 .taken in
     let h : length config ≡ 88 = search needs in
     let four : length (take 4 (drop 4 config)) ≡ 4 = simp (length-take, length-drop) (omega arith) in

@@ -21,7 +21,10 @@ returns c = rw (eq-eqb _ _ (c .before .before .if1 .taken), sym (c .before .valu
 
 returns-2 : tie.Need-returns-2
 unfolding zoneOpen
-returns-2 c = rw (eq-eqb _ _ (c .before .before .before .if1 .taken), sym (c .before .before .values-locked .ensures) ∙ c .before .if2 .left) (c .config-locked .ensures)
+returns-2 c =
+    let p = c .before in
+    let unlocked = sym (p .before .values-locked .ensures) ∙ p .if2 .left in
+    rw (eq-eqb _ _ (p .before .before .if1 .taken), unlocked) (c .config-locked .ensures)
 
 returns-3 : tie.Need-returns-3
 unfolding zoneOpen

@@ -14,51 +14,58 @@ word-of-requires c κs = search needs
 returns : tie.Need-returns
 unfolding addressFits
 returns c =
-    let w = c .before .before .before .before .args .f .param2 in
-    let h : w < 16 = rw (c .before .before .word-of .ensures) at (c .if1 .taken) in
+    let p = c .before .before in
+    let w = p .before .before .args .f .param2 in
+    let h : w < 16 = rw (p .word-of .ensures) at (c .if1 .taken) in
     rw (c .before .match .keys1, le-leb w 21 (omega arith), le-leb w 15 (omega arith), then-true)
 
 returns-2 : tie.Need-returns-2
 unfolding addressFits
 returns-2 c =
-    let w = c .before .before .before .before .before .before .args .f .param2 in
-    let l : 16 ≤ w = rw (c .before .before .before .before .word-of .ensures) at (c .before .before .if1 .left) in
-    let h : w < 22 = rw (c .before .before .before .before .word-of .ensures) at (c .before .if2 .taken) in
+    let p = c .before .before .before .before in
+    let w = p .before .before .args .f .param2 in
+    let l : 16 ≤ w = rw (p .word-of .ensures) at (c .before .before .if1 .left) in
+    let h : w < 22 = rw (p .word-of .ensures) at (c .before .if2 .taken) in
     rw (c .before .before .before .match .keys1, le-leb w 21 (omega arith), lt-leb w 15 (omega arith), then-false)
 
 returns-3 : tie.Need-returns-3
 unfolding addressFits
 returns-3 c =
-    let w = c .before .before .before .before .before .args .f .param2 in
-    let h : 22 ≤ w = rw (c .before .before .before .word-of .ensures) at (c .if2 .left) in
+    let p = c .before .before .before in
+    let w = p .before .before .args .f .param2 in
+    let h : 22 ≤ w = rw (p .word-of .ensures) at (c .if2 .left) in
     rw (c .before .before .match .keys1, lt-leb w 21 (omega arith))
 
 returns-4 : tie.Need-returns-4
 unfolding addressFits
 returns-4 c =
-    let w = c .before .before .before .before .args .f .param2 in
-    let h : w < 16 = rw (c .before .before .word-of .ensures) at (c .if3 .taken) in
+    let p = c .before .before in
+    let w = p .before .before .args .f .param2 in
+    let h : w < 16 = rw (p .word-of .ensures) at (c .if3 .taken) in
     rw (c .before .match .keys2, le-leb w 15 (omega arith))
 
 returns-5 : tie.Need-returns-5
 unfolding addressFits
 returns-5 c =
-    let w = c .before .before .before .before .args .f .param2 in
-    let h : 16 ≤ w = rw (c .before .before .word-of .ensures) at (c .if3 .left) in
+    let p = c .before .before in
+    let w = p .before .before .args .f .param2 in
+    let h : 16 ≤ w = rw (p .word-of .ensures) at (c .if3 .left) in
     rw (c .before .match .keys2, lt-leb w 15 (omega arith))
 
 returns-6 : tie.Need-returns-6
 unfolding addressFits
 returns-6 c =
-    let w = c .before .before .before .before .args .f .param2 in
-    let h : w < 128 = rw (c .before .before .word-of .ensures) at (c .if4 .taken) in
+    let p = c .before .before in
+    let w = p .before .before .args .f .param2 in
+    let h : w < 128 = rw (p .word-of .ensures) at (c .if4 .taken) in
     rw (c .before .match .keys3, le-leb w 127 (omega arith))
 
 returns-7 : tie.Need-returns-7
 unfolding addressFits
 returns-7 c =
-    let w = c .before .before .before .before .args .f .param2 in
-    let h : 128 ≤ w = rw (c .before .before .word-of .ensures) at (c .if4 .left) in
+    let p = c .before .before in
+    let w = p .before .before .args .f .param2 in
+    let h : 128 ≤ w = rw (p .word-of .ensures) at (c .if4 .left) in
     rw (c .before .match .keys3, lt-leb w 127 (omega arith))
 
 returns-8 : tie.Need-returns-8

@@ -13,14 +13,16 @@ check-mac-bit-requires c κs = search needs
 returns : tie.Need-returns
 unfolding encryptsFor
 returns c =
-    let source = c .before .before .before .before .before .before .args .t .sourceFlag in
-    rw (eq-eqb _ _ (c .before .before .if1 .taken), sym (c .before .check-mac-bit .ensures) ∙ c .if2 .taken) (sym (iff-true source))
+    let p = c .before .before in
+    let source = p .before .before .before .before .args .t .sourceFlag in
+    rw (eq-eqb _ _ (p .if1 .taken), sym (c .before .check-mac-bit .ensures) ∙ c .if2 .taken) (sym (iff-true source))
 
 returns-2 : tie.Need-returns-2
 unfolding encryptsFor
 returns-2 c =
-    let source = c .before .before .before .before .before .before .before .args .t .sourceFlag in
-    rw (eq-eqb _ _ (c .before .before .before .if1 .taken), sym (c .before .before .check-mac-bit .ensures) ∙ c .before .if2 .left) (sym (iff-false source))
+    let p = c .before .before .before in
+    let source = p .before .before .before .before .args .t .sourceFlag in
+    rw (eq-eqb _ _ (p .if1 .taken), sym (c .before .before .check-mac-bit .ensures) ∙ c .before .if2 .left) (sym (iff-false source))
 
 returns-3 : tie.Need-returns-3
 unfolding encryptsFor

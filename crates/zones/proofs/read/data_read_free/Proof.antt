@@ -5,8 +5,8 @@ use borrow.Author.Needs.{needs}
 use Rattle.zones.proofs.read.data_read_free.Statement.{statement}
 use Rattle.zones.proofs.read.data_read_free.Tie as tie
 
-data-slot-requires : tie.Need-data-slot-requires
-data-slot-requires c κs = search needs
+slot-of-requires : tie.Need-slot-of-requires
+slot-of-requires c κs = search needs
 
 both-locked-requires : tie.Need-both-locked-requires
 both-locked-requires c κs = search needs
@@ -26,7 +26,7 @@ returns c =
     let p = c .before .before .before in
     let locked = sym (p .before .both-locked .ensures) ∙ p .if1 .taken in
     let secret = sym (c .before .before .slot-bit .ensures) ∙ c .before .if2 .taken in
-    rw (locked, ← c .before .before .before .before .before .data-slot .ensures, secret) (c .secret-read-free .ensures)
+    rw (locked, ← c .before .before .before .before .before .slot-of .ensures, secret) (c .secret-read-free .ensures)
 
 returns-2 : tie.Need-returns-2
 unfolding dataReadFree
@@ -34,7 +34,7 @@ returns-2 c =
     let p = c .before .before .before in
     let locked = sym (p .before .both-locked .ensures) ∙ p .if1 .taken in
     let clear = sym (c .before .before .slot-bit .ensures) ∙ c .before .if2 .left in
-    rw (locked, ← c .before .before .before .before .before .data-slot .ensures, clear, c .slot-bit2 .ensures)
+    rw (locked, ← c .before .before .before .before .before .slot-of .ensures, clear, c .slot-bit2 .ensures)
 
 returns-3 : tie.Need-returns-3
 unfolding dataReadFree
@@ -44,7 +44,7 @@ pub data-read-free-spec : {M : Type 1} → statement M
 data-read-free-spec =
     tie.close
     (tie.spec
-    data-slot-requires
+    slot-of-requires
     both-locked-requires
     slot-bit-requires
     secret-read-free-requires

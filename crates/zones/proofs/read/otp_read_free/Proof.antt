@@ -1,5 +1,4 @@
 -- The modes are asked one after the other.
-use Prim.Native.Nat.{ℕ}
 use mathlib.Core.Path.{_≡_, sym, _∙_}
 use mathlib.Core.Logic.{⊎-elim, inl, inr}
 use borrow.Author.Tests.{eq-eqb, ne-eqb}
@@ -27,17 +26,24 @@ returns c =
 
 returns-2 : tie.Need-returns-2
 unfolding otpReadFree
-returns-2 c = rw (sym (c .before .before .before .before .before .both-locked .ensures) ∙ c .before .before .before .before .if1 .taken, c .before .before .before .match .keys2, eq-eqb _ _ (c .if2 .taken))
+returns-2 c =
+    let p = c .before .before .before .before in
+    let locked = sym (p .before .both-locked .ensures) ∙ p .if1 .taken in
+    rw (locked, c .before .before .before .match .keys2, eq-eqb _ _ (c .if2 .taken))
 
 returns-3 : tie.Need-returns-3
 unfolding otpReadFree
-returns-3 c = rw (sym (c .before .before .before .before .before .before .both-locked .ensures) ∙ c .before .before .before .before .before .if1 .taken, c .before .before .before .before .match .keys2, ne-eqb _ _ (c .before .if2 .left), c .before .before .before .word-of .ensures)
+returns-3 c =
+    let p = c .before .before .before .before .before in
+    let locked = sym (p .before .both-locked .ensures) ∙ p .if1 .taken in
+    rw (locked, c .before .before .before .before .match .keys2, ne-eqb _ _ (c .before .if2 .left), c .before .before .before .word-of .ensures)
 
 returns-4 : tie.Need-returns-4
 unfolding otpReadFree
 returns-4 c =
+    let locked = sym (c .before .before .both-locked .ensures) ∙ c .before .if1 .taken in
     let no = c .match .rest in
-    rw (sym (c .before .before .both-locked .ensures) ∙ c .before .if1 .taken, ne-eqb _ _ (λ e. no .0 .1 (inr e)), ne-eqb _ _ (λ e. no .0 .1 (inl e)), ne-eqb _ _ (no .1))
+    rw (locked, ne-eqb _ _ (λ e. no .0 .1 (inr e)), ne-eqb _ _ (λ e. no .0 .1 (inl e)), ne-eqb _ _ (no .1))
 
 returns-5 : tie.Need-returns-5
 unfolding otpReadFree

@@ -27,13 +27,14 @@ ended-requires c κs = search needs
 
 returns : tie.Need-returns
 returns c =
-    let a = c .before .before .before .before .before .before .args in
-    let zone = now (a .zone) in
-    let at = position (a .f) in
-    let n = size (a .f) in
-    let fits = c .before .before .before .before .before .before .pre in
+    let p = c .before .before in
+    let s = c .before .before .before .before .before .before in
+    let zone = now (s .args .zone) in
+    let at = position (s .args .f) in
+    let n = size (s .args .f) in
+    let fits = s .pre in
     let all : length (take n (drop at zone)) ≡ n = simp (length-take, length-drop) (omega arith) in
-    rw (all, c .ended .ensures, c .before .size-of2 .ensures, c .before .before .row-of .ensures, c .before .before .before .size-of .ensures, c .before .before .before .before .position-of .ensures, row-there zone at n (size-small (a .f)) fits)
+    rw (all, c .ended .ensures, c .before .size-of2 .ensures, p .row-of .ensures, p .before .size-of .ensures, p .before .before .position-of .ensures, row-there zone at n (size-small (s .args .f)) fits)
 
 pub read-clear-spec : {M : Type 1} → statement M
 read-clear-spec =

@@ -16,14 +16,14 @@ returns : tie.Need-returns
 unfolding readShape
 returns c =
     let p = c .before .before in
-    let bits = sym (read-mask (c .before .before .before .before .before .args .f .param1) (search needs)) ∙ sym (p .before .only-bits .ensures) ∙ p .if1 .taken in
+    let bits = sym (read-mask (p .before .before .before .args .f .param1) (search needs)) ∙ sym (p .before .only-bits .ensures) ∙ p .if1 .taken in
     rw (bits, sym (c .before .address-fits .ensures) ∙ c .if2 .taken)
 
 returns-2 : tie.Need-returns-2
 unfolding readShape
 returns-2 c =
     let p = c .before .before in
-    let bits = sym (read-mask (c .before .before .before .before .before .args .f .param1) (search needs)) ∙ sym (p .before .only-bits .ensures) ∙ p .if1 .taken in
+    let bits = sym (read-mask (p .before .before .before .args .f .param1) (search needs)) ∙ sym (p .before .only-bits .ensures) ∙ p .if1 .taken in
     rw (bits, sym (c .before .address-fits .ensures) ∙ c .if2 .left)
 
 returns-3 : tie.Need-returns-3

@@ -14,19 +14,21 @@ slice-aggregate-read-clear c = search needs
 
 read-clear-requires : tie.Need-read-clear-requires
 read-clear-requires c κs =
-    let h : length (c .before .before .before .before .args .d .config) ≡ 88 = search needs in
-    omega (arith, config-within (c .before .before .before .before .args .f) (c .before .before .before .before .pre) (c .before .before .match .keys1))
+    let s = c .before .before .before .before in
+    let h : length (s .args .d .config) ≡ 88 = search needs in
+    omega (arith, config-within (s .args .f) (s .pre) (c .before .before .match .keys1))
 
 slice-aggregate-read-clear-2 : tie.Need-slice-aggregate-read-clear-2
 slice-aggregate-read-clear-2 c = search needs
 
 read-clear-requires-2 : tie.Need-read-clear-requires-2
 read-clear-requires-2 c κs =
-    let h : length (c .before .before .before .before .args .d .otp) ≡ 64 = search needs in
-    omega (arith, otp-within (c .before .before .before .before .args .f) (c .before .before .before .before .pre) (c .before .before .match .keys2))
+    let s = c .before .before .before .before in
+    let h : length (s .args .d .otp) ≡ 64 = search needs in
+    omega (arith, otp-within (s .args .f) (s .pre) (c .before .before .match .keys2))
 
-data-slot-requires : tie.Need-data-slot-requires
-data-slot-requires c κs = search needs
+slot-of-requires : tie.Need-slot-of-requires
+slot-of-requires c κs = search needs
 
 slot-bit-requires : tie.Need-slot-bit-requires
 slot-bit-requires c κs = search needs
@@ -39,9 +41,10 @@ slice-aggregate-read-clear-3 c = search needs
 
 read-clear-requires-3 : tie.Need-read-clear-requires-3
 read-clear-requires-3 c κs =
-    let h : length (c .before .before .before .before .before .before .before .before .args .d .«data») ≡ 512 = search needs in
+    let s = c .before .before .before .before .before .before .before .before in
+    let h : length (s .args .d .«data») ≡ 512 = search needs in
     let no = c .before .before .before .before .before .before .match .rest in
-    omega (arith, data-within (c .before .before .before .before .before .before .before .before .args .f) (c .before .before .before .before .before .before .before .before .pre) (no .0 .1) (no .1))
+    omega (arith, data-within (s .args .f) (s .pre) (no .0 .1) (no .1))
 
 returns : tie.Need-returns
 unfolding readBytes
@@ -54,16 +57,18 @@ returns-2 c = rw (c .before .before .before .match .keys2) (c .read-clear2 .ensu
 returns-3 : tie.Need-returns-3
 unfolding readBytes
 returns-3 c =
-    let no = c .before .before .before .before .before .match .rest in
+    let p = c .before .before .before in
+    let no = p .before .before .match .rest in
     let secret = sym (c .before .before .slot-bit .ensures) ∙ c .before .if1 .taken in
-    rw (ne-eqb _ _ (no .0 .1), ne-eqb _ _ (no .1), ← c .before .before .before .data-slot .ensures, secret) (c .read-encrypted .ensures)
+    rw (ne-eqb _ _ (no .0 .1), ne-eqb _ _ (no .1), ← p .slot-of .ensures, secret) (c .read-encrypted .ensures)
 
 returns-4 : tie.Need-returns-4
 unfolding readBytes
 returns-4 c =
-    let no = c .before .before .before .before .before .before .before .match .rest in
+    let p = c .before .before .before .before .before in
+    let no = p .before .before .match .rest in
     let clear = sym (c .before .before .before .before .slot-bit .ensures) ∙ c .before .before .before .if1 .left in
-    rw (ne-eqb _ _ (no .0 .1), ne-eqb _ _ (no .1), ← c .before .before .before .before .before .data-slot .ensures, clear) (c .read-clear3 .ensures)
+    rw (ne-eqb _ _ (no .0 .1), ne-eqb _ _ (no .1), ← p .slot-of .ensures, clear) (c .read-clear3 .ensures)
 
 pub read-zone-spec : {M : Type 1} → statement M
 read-zone-spec =
@@ -73,7 +78,7 @@ read-zone-spec =
     read-clear-requires
     slice-aggregate-read-clear-2
     read-clear-requires-2
-    data-slot-requires
+    slot-of-requires
     slot-bit-requires
     read-encrypted-requires
     slice-aggregate-read-clear-3

@@ -20,11 +20,17 @@ returns c = rw (sym (c .before .config-locked .ensures) ∙ c .if1 .taken)
 
 returns-2 : tie.Need-returns-2
 unfolding configWriteFree
-returns-2 c = rw (sym (c .before .before .before .config-locked .ensures) ∙ c .before .before .if1 .left, eq-eqb _ _ (c .if2 .taken))
+returns-2 c =
+    let p = c .before .before in
+    let unlocked = sym (p .before .config-locked .ensures) ∙ p .if1 .left in
+    rw (unlocked, eq-eqb _ _ (c .if2 .taken))
 
 returns-3 : tie.Need-returns-3
 unfolding configWriteFree
-returns-3 c = rw (sym (c .before .before .before .before .config-locked .ensures) ∙ c .before .before .before .if1 .left, ne-eqb _ _ (c .before .if2 .left), eq-eqb _ _ (c .if3 .taken))
+returns-3 c =
+    let p = c .before .before .before in
+    let unlocked = sym (p .before .config-locked .ensures) ∙ p .if1 .left in
+    rw (unlocked, ne-eqb _ _ (c .before .if2 .left), eq-eqb _ _ (c .if3 .taken))
 
 size-of-requires : tie.Need-size-of-requires
 size-of-requires c κs = search needs
@@ -37,14 +43,16 @@ add-result c =
 returns-4 : tie.Need-returns-4
 unfolding configWriteFree
 returns-4 c =
-    let at = c .before .before .before .before .before .before .before .position-of .ensures in
-    rw (sym (c .before .before .before .before .before .before .config-locked .ensures) ∙ c .before .before .before .before .before .if1 .left, ne-eqb _ _ (c .before .before .before .if2 .left), ne-eqb _ _ (c .before .before .if3 .left), ← at, le-leb _ _ (c .before .if4 .taken), c .size-of .ensures)
+    let p = c .before .before .before .before .before in
+    let unlocked = sym (p .before .config-locked .ensures) ∙ p .if1 .left in
+    rw (unlocked, ne-eqb _ _ (c .before .before .before .if2 .left), ne-eqb _ _ (c .before .before .if3 .left), ← p .before .before .position-of .ensures, le-leb _ _ (c .before .if4 .taken), c .size-of .ensures)
 
 returns-5 : tie.Need-returns-5
 unfolding configWriteFree
 returns-5 c =
-    let at = c .before .before .before .before .before .before .position-of .ensures in
-    rw (sym (c .before .before .before .before .before .config-locked .ensures) ∙ c .before .before .before .before .if1 .left, ne-eqb _ _ (c .before .before .if2 .left), ne-eqb _ _ (c .before .if3 .left), ← at, lt-leb _ _ (c .if4 .left))
+    let p = c .before .before .before .before in
+    let unlocked = sym (p .before .config-locked .ensures) ∙ p .if1 .left in
+    rw (unlocked, ne-eqb _ _ (c .before .before .if2 .left), ne-eqb _ _ (c .before .if3 .left), ← p .before .before .position-of .ensures, lt-leb _ _ (c .if4 .left))
 
 pub config-write-free-spec : {M : Type 1} → statement M
 config-write-free-spec =

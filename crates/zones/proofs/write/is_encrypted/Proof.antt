@@ -18,15 +18,24 @@ slot-encrypted-requires c κs = search needs
 
 returns-2 : tie.Need-returns-2
 unfolding encrypted
-returns-2 c = rw (ne-eqb _ _ (c .before .before .before .before .if1 .left), sym (c .before .before .before .values-locked .ensures) ∙ c .before .before .if2 .taken, eq-eqb _ _ (c .before .if3 .taken)) (c .slot-encrypted .ensures)
+returns-2 c =
+    let p = c .before .before in
+    let locked = sym (p .before .values-locked .ensures) ∙ p .if2 .taken in
+    rw (ne-eqb _ _ (p .before .before .if1 .left), locked, eq-eqb _ _ (c .before .if3 .taken)) (c .slot-encrypted .ensures)
 
 returns-3 : tie.Need-returns-3
 unfolding encrypted
-returns-3 c = rw (ne-eqb _ _ (c .before .before .before .if1 .left), sym (c .before .before .values-locked .ensures) ∙ c .before .if2 .taken, ne-eqb _ _ (c .if3 .left))
+returns-3 c =
+    let p = c .before in
+    let locked = sym (p .before .values-locked .ensures) ∙ p .if2 .taken in
+    rw (ne-eqb _ _ (p .before .before .if1 .left), locked, ne-eqb _ _ (c .if3 .left))
 
 returns-4 : tie.Need-returns-4
 unfolding encrypted
-returns-4 c = rw (ne-eqb _ _ (c .before .before .before .if1 .left), sym (c .before .before .values-locked .ensures) ∙ c .before .if2 .left)
+returns-4 c =
+    let p = c .before in
+    let unlocked = sym (p .before .values-locked .ensures) ∙ p .if2 .left in
+    rw (ne-eqb _ _ (p .before .before .if1 .left), unlocked)
 
 pub is-encrypted-spec : {M : Type 1} → statement M
 is-encrypted-spec =

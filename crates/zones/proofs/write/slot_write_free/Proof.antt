@@ -5,8 +5,8 @@ use borrow.Author.Needs.{needs}
 use Rattle.zones.proofs.write.slot_write_free.Statement.{statement}
 use Rattle.zones.proofs.write.slot_write_free.Tie as tie
 
-data-slot-requires : tie.Need-data-slot-requires
-data-slot-requires c κs = search needs
+slot-of-requires : tie.Need-slot-of-requires
+slot-of-requires c κs = search needs
 
 slot-encrypted-requires : tie.Need-slot-encrypted-requires
 slot-encrypted-requires c κs = search needs
@@ -29,7 +29,7 @@ returns c =
     let p = c .before .before .before .before in
     let hidden = sym (p .before .slot-encrypted .ensures) ∙ p .if1 .taken in
     let temp = sym (c .before .before .before .key-encrypts .ensures) ∙ c .before .before .if2 .taken in
-    rw (hidden, temp, c .key-encrypts-for .ensures, c .before .write-key .ensures, p .before .before .data-slot .ensures)
+    rw (hidden, temp, c .key-encrypts-for .ensures, c .before .write-key .ensures, p .before .before .slot-of .ensures)
 
 returns-2 : tie.Need-returns-2
 unfolding slotWriteFree
@@ -42,13 +42,13 @@ returns-3 : tie.Need-returns-3
 unfolding slotWriteFree
 returns-3 c =
     let clear = sym (c .before .before .slot-encrypted .ensures) ∙ c .before .if1 .left in
-    rw (clear, c .clear-write-free .ensures, c .before .before .before .data-slot .ensures)
+    rw (clear, c .clear-write-free .ensures, c .before .before .before .slot-of .ensures)
 
 pub slot-write-free-spec : {M : Type 1} → statement M
 slot-write-free-spec =
     tie.close
     (tie.spec
-    data-slot-requires
+    slot-of-requires
     slot-encrypted-requires
     key-encrypts-requires
     write-key-requires

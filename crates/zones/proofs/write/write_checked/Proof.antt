@@ -13,19 +13,19 @@ is-encrypted-requires c κs = search needs
 
 write-encrypted-requires : tie.Need-write-encrypted-requires
 write-encrypted-requires c κs =
-    let a = c .before .before .before .before .args in
-    let input = now (a .input) in
-    let shape = c .before .before .before .before .pre .0 in
-    let mac = mac-encrypted (a .d) (a .f) input (c .before .before .before .before .pre .1) ∙ sym (c .before .is-encrypted .ensures) ∙ c .if1 .taken in
-    (eqb-true _ _ mac, (size-mac (a .f) input shape mac, write-fits (a .f) input shape))
+    let s = c .before .before .before .before in
+    let f = s .args .f in
+    let input = now (s .args .input) in
+    let mac = mac-encrypted (s .args .d) f input (s .pre .1) ∙ sym (c .before .is-encrypted .ensures) ∙ c .if1 .taken in
+    (eqb-true _ _ mac, (size-mac f input (s .pre .0) mac, write-fits f input (s .pre .0)))
 
 write-value-requires : tie.Need-write-value-requires
 write-value-requires c κs =
-    let a = c .before .before .before .before .args in
-    let input = now (a .input) in
-    let shape = c .before .before .before .before .pre .0 in
-    let none = mac-encrypted (a .d) (a .f) input (c .before .before .before .before .pre .1) ∙ sym (c .before .is-encrypted .ensures) ∙ c .if1 .left in
-    (size-clear (a .f) input shape none, write-fits (a .f) input shape)
+    let s = c .before .before .before .before in
+    let f = s .args .f in
+    let input = now (s .args .input) in
+    let none = mac-encrypted (s .args .d) f input (s .pre .1) ∙ sym (c .before .is-encrypted .ensures) ∙ c .if1 .left in
+    (size-clear f input (s .pre .0) none, write-fits f input (s .pre .0))
 
 said-requires : tie.Need-said-requires
 said-requires c κs = search needs
@@ -36,7 +36,10 @@ returns c = rw (sym (c .before .before .is-encrypted .ensures) ∙ c .before .if
 
 returns-2 : tie.Need-returns-2
 unfolding writeEffect
-returns-2 c = rw (sym (c .before .before .before .is-encrypted .ensures) ∙ c .before .before .if1 .left, c .said .ensures, c .before .write-value .ensures)
+returns-2 c =
+    let p = c .before .before in
+    let clear = sym (p .before .is-encrypted .ensures) ∙ p .if1 .left in
+    rw (clear, c .said .ensures, c .before .write-value .ensures)
 
 pub write-checked-spec : {M : Type 1} → statement M
 write-checked-spec =

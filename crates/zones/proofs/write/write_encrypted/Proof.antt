@@ -1,5 +1,5 @@
 -- The MAC is the digest of the layout with the plain value.
-use mathlib.Core.Path.{_≡_, sym, _∙_}
+use mathlib.Core.Path.{sym, _∙_}
 use native.Mathlib.Omega.{arith}
 use denote.Ref.{now}
 use Rattle.rules.specs.Write.{writeMac}
@@ -32,16 +32,18 @@ said-requires-2 c κs = search needs
 returns : tie.Need-returns
 unfolding writeMac
 returns c =
-    let input = now (c .before .before .before .before .before .before .before .before .args .input) in
-    let right = sym (c .before .before .before .before .mac-right .ensures) ∙ c .before .before .before .if1 .taken in
-    rw (← row-whole input 32 (omega arith), ← c .before .before .before .before .before .row-of .ensures, ← c .before .before .before .before .before .before .plain-of .ensures, right, c .said .ensures, c .before .write-value .ensures)
+    let p = c .before .before .before .before in
+    let mac = p .before .row-of .ensures ∙ row-whole (now (c .before .before .before .before .before .before .before .before .args .input)) 32 (omega arith) in
+    let right = sym (p .mac-right .ensures) ∙ c .before .before .before .if1 .taken in
+    rw (← mac, ← p .before .before .plain-of .ensures, right, c .said .ensures, c .before .write-value .ensures)
 
 returns-2 : tie.Need-returns-2
 unfolding writeMac
 returns-2 c =
-    let input = now (c .before .before .before .before .before .before .args .input) in
-    let wrong = sym (c .before .before .mac-right .ensures) ∙ c .before .if1 .left in
-    rw (← row-whole input 32 (omega arith), ← c .before .before .before .row-of .ensures, ← c .before .before .before .before .plain-of .ensures, wrong) (c .said2 .ensures)
+    let p = c .before .before in
+    let mac = p .before .row-of .ensures ∙ row-whole (now (c .before .before .before .before .before .before .args .input)) 32 (omega arith) in
+    let wrong = sym (p .mac-right .ensures) ∙ c .before .if1 .left in
+    rw (← mac, ← p .before .before .plain-of .ensures, wrong) (c .said2 .ensures)
 
 pub write-encrypted-spec : {M : Type 1} → statement M
 write-encrypted-spec =

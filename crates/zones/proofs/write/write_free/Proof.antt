@@ -30,10 +30,11 @@ unfolding writeFree
 returns-2 c =
     let q = c .before .before .before in
     let p = q .before .before in
+    let zone = ne-eqb _ _ (p .before .before .if1 .left) in
     let locked = sym (p .before .config-locked .ensures) ∙ p .if2 .taken in
     let mac = sym (q .before .mac-present .ensures) ∙ q .if3 .taken in
     let values = sym (c .before .before .values-locked .ensures) ∙ c .before .if4 .taken in
-    rw (ne-eqb _ _ (c .before .before .before .before .before .before .before .if1 .left), locked, mac, values) (c .locked-write-free .ensures)
+    rw (zone, locked, mac, values) (c .locked-write-free .ensures)
 
 unlocked-write-free-requires : tie.Need-unlocked-write-free-requires
 unlocked-write-free-requires c κs = search needs
@@ -43,22 +44,25 @@ unfolding writeFree
 returns-3 c =
     let q = c .before .before .before in
     let p = q .before .before in
+    let zone = ne-eqb _ _ (p .before .before .if1 .left) in
     let locked = sym (p .before .config-locked .ensures) ∙ p .if2 .taken in
     let mac = sym (q .before .mac-present .ensures) ∙ q .if3 .taken in
     let values = sym (c .before .before .values-locked .ensures) ∙ c .before .if4 .left in
-    rw (ne-eqb _ _ (c .before .before .before .before .before .before .before .if1 .left), locked, mac, values) (c .unlocked-write-free .ensures)
+    rw (zone, locked, mac, values) (c .unlocked-write-free .ensures)
 
 returns-4 : tie.Need-returns-4
 unfolding writeFree
 returns-4 c =
-    let q = c in
-    let p = q .before .before in
+    let p = c .before .before in
+    let zone = ne-eqb _ _ (p .before .before .if1 .left) in
     let locked = sym (p .before .config-locked .ensures) ∙ p .if2 .taken in
-    rw (ne-eqb _ _ (c .before .before .before .before .if1 .left), locked, sym (q .before .mac-present .ensures) ∙ q .if3 .left)
+    rw (zone, locked, sym (c .before .mac-present .ensures) ∙ c .if3 .left)
 
 returns-5 : tie.Need-returns-5
 unfolding writeFree
-returns-5 c = rw (ne-eqb _ _ (c .before .before .if1 .left), sym (c .before .config-locked .ensures) ∙ c .if2 .left)
+returns-5 c =
+    let zone = ne-eqb _ _ (c .before .before .if1 .left) in
+    rw (zone, sym (c .before .config-locked .ensures) ∙ c .if2 .left)
 
 pub write-free-spec : {M : Type 1} → statement M
 write-free-spec =

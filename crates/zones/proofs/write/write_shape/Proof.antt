@@ -1,6 +1,5 @@
 -- The mask leaves bits 7, 6, 1 and 0; then the address and the length are asked.
 use mathlib.Core.Path.{sym, _∙_}
-use borrow.Author.Tests.{eq-eqb, ne-eqb}
 use Rattle.rules.specs.Write.{writeShape}
 use Rattle.rules.proofs.Masks.{write-mask}
 use borrow.Author.Needs.{needs}
@@ -13,44 +12,26 @@ only-bits-requires c κs = search needs
 address-fits-requires : tie.Need-address-fits-requires
 address-fits-requires c κs = search needs
 
+length-fits-requires : tie.Need-length-fits-requires
+length-fits-requires c κs = search needs
+
 returns : tie.Need-returns
 unfolding writeShape
 returns c =
-    let q = c .before .before .before in
-    let p = q .before .before in
-    let bits = sym (write-mask (c .before .before .before .before .before .before .before .before .args .f .param1) (search needs)) ∙ sym (p .before .only-bits .ensures) ∙ p .if1 .taken in
-    let fits = sym (q .before .address-fits .ensures) ∙ q .if2 .taken in
-    rw (bits, fits, eq-eqb _ _ (c .before .if3 .taken), eq-eqb _ _ (c .if4 .taken))
+    let p = c .before .before .before in
+    let bits = sym (write-mask (p .before .before .before .args .f .param1) (search needs)) ∙ sym (p .before .only-bits .ensures) ∙ p .if1 .taken in
+    rw (bits, sym (c .before .before .address-fits .ensures) ∙ c .before .if2 .taken) (c .length-fits .ensures)
 
 returns-2 : tie.Need-returns-2
 unfolding writeShape
 returns-2 c =
-    let q = c .before .before .before in
-    let p = q .before .before in
-    let bits = sym (write-mask (c .before .before .before .before .before .before .before .before .args .f .param1) (search needs)) ∙ sym (p .before .only-bits .ensures) ∙ p .if1 .taken in
-    let fits = sym (q .before .address-fits .ensures) ∙ q .if2 .taken in
-    rw (bits, fits, eq-eqb _ _ (c .before .if3 .taken), ne-eqb _ _ (c .if4 .left))
+    let p = c .before .before in
+    let bits = sym (write-mask (p .before .before .before .args .f .param1) (search needs)) ∙ sym (p .before .only-bits .ensures) ∙ p .if1 .taken in
+    rw (bits, sym (c .before .address-fits .ensures) ∙ c .if2 .left)
 
 returns-3 : tie.Need-returns-3
 unfolding writeShape
-returns-3 c =
-    let q = c .before .before in
-    let p = q .before .before in
-    let bits = sym (write-mask (c .before .before .before .before .before .before .before .args .f .param1) (search needs)) ∙ sym (p .before .only-bits .ensures) ∙ p .if1 .taken in
-    let fits = sym (q .before .address-fits .ensures) ∙ q .if2 .taken in
-    rw (bits, fits, ne-eqb _ _ (c .if3 .left))
-
-returns-4 : tie.Need-returns-4
-unfolding writeShape
-returns-4 c =
-    let q = c in
-    let p = q .before .before in
-    let bits = sym (write-mask (c .before .before .before .before .before .args .f .param1) (search needs)) ∙ sym (p .before .only-bits .ensures) ∙ p .if1 .taken in
-    rw (bits, sym (q .before .address-fits .ensures) ∙ q .if2 .left)
-
-returns-5 : tie.Need-returns-5
-unfolding writeShape
-returns-5 c = rw (sym (write-mask (c .before .before .before .args .f .param1) (search needs)) ∙ sym (c .before .only-bits .ensures) ∙ c .if1 .left)
+returns-3 c = rw (sym (write-mask (c .before .before .before .args .f .param1) (search needs)) ∙ sym (c .before .only-bits .ensures) ∙ c .if1 .left)
 
 pub write-shape-spec : {M : Type 1} → statement M
 write-shape-spec =
@@ -58,8 +39,7 @@ write-shape-spec =
     (tie.spec
     only-bits-requires
     address-fits-requires
+    length-fits-requires
     returns
     returns-2
-    returns-3
-    returns-4
-    returns-5)
+    returns-3)

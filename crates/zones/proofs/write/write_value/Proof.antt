@@ -14,8 +14,8 @@ store-config-row-requires c κs = search needs
 
 write-otp-requires : tie.Need-write-otp-requires
 write-otp-requires c κs =
-    let fits = c .before .before .before .pre in
-    (fits .0, otp-within (c .before .before .before .args .f) (fits .1) (c .match .keys2))
+    let s = c .before .before .before in
+    (s .pre .0, otp-within (s .args .f) (s .pre .1) (c .match .keys2))
 
 position-of-requires-2 : tie.Need-position-of-requires-2
 position-of-requires-2 c κs = search needs

@@ -10,3 +10,4 @@ pub mod Keeping
 pub mod SameTurns
 pub mod SameCalls
 pub mod SameRuns
+pub mod Witnesses

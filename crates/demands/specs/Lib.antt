@@ -3,3 +3,4 @@ pub mod Calls
 pub mod Demand1
 pub mod Demand3
 pub mod Locked
+pub mod Witnesses

@@ -15,6 +15,7 @@ pub mod Keeping
 pub mod SameTurns
 pub mod SameCalls
 pub mod SameRuns
+pub mod Witnesses
 -- Its last sentence.
 pub mod Locked
 -- The incident: which commands use TempKey, and who fills it.

@@ -3,10 +3,10 @@ use Prim.Native.Nat.{ℕ, _+_}
 use mathlib.Core.Path.{_≡_, refl, sym, ap, subst, _∙_}
 use mathlib.Core.Bool.{Bool, true, false, _&&_, false≢true}
 use mathlib.Core.List.{List, [], _∷_, _++_}
-use native.Mathlib.Omega.{arith}
-use lib.ListN.{length, take, drop, length-append}
+use lib.ListN.{length, take, drop}
 use lib.Seq.{drop-at}
-use Rattle.wire.specs.Wire.{if_then_else_, whole, counted, lowFirst, frame}
+use Rattle.wire.specs.Wire.{if_then_else_, whole, counted, frame}
+use Rattle.wire.proofs.Laws.{length-frame}
 use Rattle.rules.specs.declared.Device.{Device}
 use Rattle.rules.specs.declared.Power.{Power}
 use Rattle.rules.specs.declared.Slot.{Slot}
@@ -43,13 +43,9 @@ shown-same drawn a b e =
     subst (λ (x : List ℕ). Shown drawn a x) e
     (record { number = refl; size = refl; same = λ h. refl; front = λ o. refl; rest = λ o. refl })
 
-frame-length : (p : List ℕ) → length (frame p) ≡ length p + 3
-unfolding frame counted lowFirst
-frame-length p = simp length-append (omega arith)
-
 frame-rest : (p o : List ℕ) → length p ≡ 32 → drop 35 (put (frame p) o) ≡ drop 35 o
 frame-rest p o l =
-    let e : length (frame p) ≡ 35 = frame-length p ∙ ap (λ (n : ℕ). n + 3) l in
+    let e : length (frame p) ≡ 35 = length-frame p ∙ ap (λ (n : ℕ). n + 3) l in
     drop-at (frame p) (drop (length (frame p)) o) 35 e ∙ ap (λ (n : ℕ). drop n o) e
 
 -- two digests
@@ -57,7 +53,7 @@ digests-shown : (drawn : Bool) (p q : List ℕ) → drawn ≡ true → length p 
 unfolding frame counted
 digests-shown drawn p q h lp lq = record {
   number = refl;
-  size = frame-length p ∙ ap (λ (n : ℕ). n + 3) (lp ∙ sym lq) ∙ sym (frame-length q);
+  size = length-frame p ∙ ap (λ (n : ℕ). n + 3) (lp ∙ sym lq) ∙ sym (length-frame q);
   same = λ n. absurd (false≢true (sym n ∙ h));
   front = λ o. rw (lp, lq);
   rest = λ o. frame-rest p o lp ∙ sym (frame-rest q o lq);

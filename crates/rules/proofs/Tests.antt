@@ -60,8 +60,5 @@ iff-same false false h = refl
 iff-same true false h = cc
 iff-same false true h = cc
 
-pub iff-same : (a b : Bool) → (a iff b) ≡ true → a ≡ b
-iff-same a b h = same a b (rw h tt)
-
 -- the tests that a branch gives: `search tests` rewrites a rule's cases by them
 pub ruleset tests = (eq-eqb, ne-eqb, lt-ltb, le-ltb, le-leb, lt-leb)

@@ -1,6 +1,11 @@
 -- Proofs of the demands.
--- Demand 3: two data zones equal beside a slot; then commands, events, calls and runs over them.
+-- Shared: a rule's cases, answers, and what a call gives.
 pub mod Cases
+pub mod Answers
+pub mod Calling
+-- Demand 1.
+pub mod Demand1
+-- Demand 3: two data zones equal beside a slot; then commands, events, calls and runs over them.
 pub mod Beside
 pub mod KeyPlans
 pub mod ReadPlans
@@ -10,4 +15,12 @@ pub mod Keeping
 pub mod SameTurns
 pub mod SameCalls
 pub mod SameRuns
+-- That it is not empty, and that all it supposes is needed.
 pub mod Witnesses
+-- Its last sentence.
+pub mod Locked
+-- The incident: which commands use TempKey, and who fills it.
+pub mod TempKey
+pub mod Incident
+-- The soundings.
+pub mod Soundings

@@ -1,13 +1,13 @@
 -- Calls on a token, what they give, and runs of calls: what the demands speak of.
 use Prim.Native.Nat.{ℕ}
-use mathlib.Core.Bool.{Bool, true, false, _&&_}
+use mathlib.Core.Bool.{Bool, false, _&&_}
 use mathlib.Core.List.{List, [], _∷_}
 use lib.ListN.{length}
 use Rattle.wire.specs.Wire.{if_then_else_, whole}
 use Rattle.rules.specs.declared.Slot.{Slot}
 use Rattle.rules.specs.Words.{_is_, _upTo_}
 use Rattle.rules.specs.State.{isAwake}
-use Rattle.rules.specs.Commands.{Command, commandOf, unknown}
+use Rattle.rules.specs.Commands.{Command, commandOf}
 use Rattle.rules.specs.Events.{Event, wake, idle, sleep, block, Turn, turn, planFor, opcodeOf, outputAfter, frontOf}
 use Rattle.token.specs.declared.Token.{Token}
 use Rattle.token.specs.declared.Outcome.{Outcome}

@@ -15,6 +15,7 @@ pub mod Keeping
 pub mod SameTurns
 pub mod SameCalls
 pub mod SameRuns
+-- That it is not empty, and that all it supposes is needed.
 pub mod Witnesses
 -- Its last sentence.
 pub mod Locked

@@ -5,7 +5,6 @@ use mathlib.Core.Path.{_≡_, refl, sym, ap, subst, _∙_}
 use mathlib.Core.Bool.{Bool, true, false, false≢true}
 use mathlib.Core.List.{List}
 use lib.ListN.{length}
-use Rattle.digest.specs.Sha256.{sha256}
 use Rattle.rules.specs.declared.Device.{Device}
 use Rattle.rules.specs.declared.Fields.{Fields}
 use Rattle.rules.specs.declared.Slot.{Slot}
@@ -22,6 +21,7 @@ use Rattle.rules.specs.Read.{read, readFree, dataReadFree}
 use Rattle.rules.specs.Write.{write, writeFree, unlockedWriteFree, lockedWriteFree, slotWriteFree, writeMac, otpWritten, written, writeEffect}
 use Rattle.rules.specs.Upkeep.{updateExtra, devRev}
 use Rattle.demands.specs.Demand3.{holds, isMac}
+use Rattle.demands.proofs.Answers.{length-digest}
 use Rattle.demands.proofs.Cases.{settle-both, settle-draws}
 use Rattle.demands.proofs.Beside.{Beside, withData}
 use Rattle.demands.proofs.KeyPlans.{digest-same, mac-same, checkMac-same, genDig-same, deriveKey-same, derive-draws}
@@ -65,10 +65,6 @@ same-like k p q h e = record {
   digests = λ a. absurd (false≢true (sym h ∙ a));
 }
 
-digest-length : (m : List ℕ) → length (sha256 m) ≡ 32
-unfolding sha256
-digest-length m = refl
-
 is-mac : (c : Command) → isMac c ≡ true → aMac ≡ c
 unfolding isMac
 is-mac aMac h = refl
@@ -110,7 +106,7 @@ module _ (k : Slot) (d : Device) (y : List ℕ) (w : Beside k (d .«data») y)
         stores = refl;
         tempKey = refl;
         answer = λ h. digest-same k d y w f input h;
-        digests = λ h. (digest-length _, digest-length _);
+        digests = λ h. (length-digest _, length-digest _);
       })
 
   pub plan-like : (c : Command) (f : Fields) (input supplied : List ℕ) → (holds k (planOf c d f input supplied .draws) ⇒ isMac c) ≡ true

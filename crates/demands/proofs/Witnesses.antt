@@ -1,11 +1,11 @@
 -- The two tokens' answers, computed.
-use Prim.Native.Nat.{ℕ, _+_, _-_, _/_, _≤_, _<_}
+use Prim.Native.Nat.{ℕ, _/_}
 use mathlib.Core.Path.{_≡_, refl, ap, sym, _∙_}
-use mathlib.Core.Bool.{Bool, true, false}
+use mathlib.Core.Bool.{true, false}
 use mathlib.Core.List.{List, [], _∷_, _++_}
-use borrow.Author.Tests.{eqb-false, ltb-true, ltb-false}
-use lib.ListN.{length, replicate, length-append, List·getD-append}
-use lib.Seq.{getD-append-add}
+use borrow.Author.Tests.{eqb-false}
+use lib.ListN.{set}
+use lib.Seq.{getD-set-other}
 use lib.Bits.{bitXor, xor-self, xor-zero-r}
 use native.Mathlib.Omega.{arith}
 use Rattle.digest.specs.Sha256.{K, H0, pad, words, next, scheduleTo, round, rounds, plus, compress, hash, sha256}
@@ -14,7 +14,7 @@ use Rattle.wire.proofs.Xor.{xor-assoc}
 use Rattle.rules.specs.declared.Device.{Device}
 use Rattle.rules.specs.declared.Fields.{Fields}
 use Rattle.rules.specs.declared.Slot.{Slot}
-use Rattle.rules.specs.Words.{_is_, _under_, byte, zeros, named, onlyBits, equal, xorRow}
+use Rattle.rules.specs.Words.{_is_, byte, zeros, named, onlyBits, equal, xorRow}
 use Rattle.rules.specs.State.{slotBytes, slotConfig}
 use Rattle.rules.specs.Plan.{Plan, settle}
 use Rattle.rules.specs.Uses.{limited, useLeft, spend}
@@ -34,7 +34,8 @@ use Rattle.token.specs.declared.Token.{Token}
 use Rattle.token.specs.Outcome.{outcome, freshOf}
 use Rattle.demands.specs.Calls.{Call, blockOf, runs, draws, answerOf, after}
 use Rattle.demands.specs.Demand3.{Alike, Kept, holds, isMac, spared, drawsOn}
-use Rattle.demands.specs.Witnesses.{Setting, holding, asDemanded, Exposed, call, readSlot, genDigOfOpen, readSlotEncrypted, lockValues, openSlot, lockConfiguration, one, another, secretSlot, start, macOfSlot, run, Witnesses, genDigOfSlot, readEncrypted, deriveFromSlot, readDerived, copyOfSlot, macOfTempKey, checkOfSlot}
+use Rattle.demands.specs.Soundings.{call}
+use Rattle.demands.specs.Witnesses.{Setting, holding, asDemanded, Exposed, readSlot, genDigOfOpen, readSlotEncrypted, lockValues, openSlot, lockConfiguration, one, another, secretSlot, start, macOfSlot, run, Witnesses, genDigOfSlot, readEncrypted, deriveFromSlot, readDerived, copyOfSlot, macOfTempKey, checkOfSlot}
 use Rattle.demands.proofs.Cases.{if-all, settle-all}
 use Rattle.demands.proofs.SameRuns.{demand-3}
 
@@ -42,23 +43,9 @@ use Rattle.demands.proofs.SameRuns.{demand-3}
 differ : (at : ℕ) (x y : List ℕ) → (byte at x is byte at y) ≡ false → x ≡ y → ⊥
 differ at x y h e = eqb-false (byte at x) (byte at y) h (ap (λ (l : List ℕ). byte at l) e)
 
--- a byte before a row, and one beyond it
-before : (front x back : List ℕ) (i : ℕ) → i < length front → byte i (front ++ x ++ back) ≡ byte i front
-before front x back i h =
-    List·getD-append (front ++ x) back 0 i (omega (arith, length-append front x)) ∙ List·getD-append front x 0 i h
-
-beyond : (front x back : List ℕ) (i n : ℕ) → i ≡ length front + length x + n → byte i (front ++ x ++ back) ≡ byte n back
-beyond front x back i n e = rw (e, ← length-append front x) (getD-append-add (front ++ x) back n 0)
-
--- two zones that differ in one row, that of slot 1
-row-elsewhere : (front x y back : List ℕ) → length front ≡ 32 → length x ≡ 32 → length y ≡ 32 → (i : ℕ) → (i / 32 ≡ 1 → ⊥)
-    → byte i (front ++ x ++ back) ≡ byte i (front ++ y ++ back)
-row-elsewhere front x y back lf lx ly i out = go (i under 32) refl where
-  go : (t : Bool) → (i under 32) ≡ t → byte i (front ++ x ++ back) ≡ byte i (front ++ y ++ back)
-  go true h = let l : i < 32 = ltb-true i 32 h in before front x back i (omega arith) ∙ sym (before front y back i (omega arith))
-  go false h =
-      let l : 32 ≤ i = ltb-false i 32 h in
-      beyond front x back i (i - 64) (omega arith) ∙ sym (beyond front y back i (i - 64) (omega arith))
+-- a byte of the data zone outside slot 1 is zero
+beside : (i b : ℕ) → (i / 32 ≡ 1 → ⊥) → byte i (set (zeros 512) 32 b) ≡ byte i (zeros 512)
+beside i b out = getD-set-other (zeros 512) 32 i b 0 (λ e. out (omega arith))
 
 tokens-alike : (x : Setting) → Alike secretSlot (holding x 0x11) (holding x 0x22)
 unfolding holding freshOf
@@ -68,7 +55,7 @@ tokens-alike x = record {
   tempKey = refl;
   power = refl;
   dataLength = refl;
-  elsewhere = row-elsewhere (zeros 32) (replicate 32 0x11) (replicate 32 0x22) (zeros 448) refl refl refl;
+  elsewhere = λ i out. beside i 0x11 out ∙ sym (beside i 0x22 out);
 }
 
 -- What is opened to compute an answer, without its digests and with them: to unfold `opening` is to unfold all that its line names.
@@ -128,7 +115,7 @@ unfolding mac keyDrawn
 mac-draws d f input h = settle-all (λ (p : Plan). p .draws ≡ []) (mac d f input) (λ a b. rw h) refl refl
 
 all-apart : (s : Token) → (drawsOn secretSlot s readEncrypted ≡ false) × (drawsOn secretSlot s readDerived ≡ false) × (drawsOn secretSlot s macOfTempKey ≡ false)
-unfolding planFor commandOf
+unfolding planFor commandOf frame counted
 all-apart s = (
   none-drawn s readEncrypted (read-draws (s .device) _ _),
   none-drawn s readDerived (read-draws (s .device) _ _),

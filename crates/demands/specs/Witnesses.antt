@@ -1,17 +1,17 @@
 -- Demand 3 is not empty, and all that it supposes is needed: tokens, and what calls on them show.
-use Prim.Native.Nat.{ℕ, _+_}
+use Prim.Native.Nat.{ℕ}
 use mathlib.Core.Path.{_≡_}
 use mathlib.Core.Bool.{true, false}
 use mathlib.Core.List.{List, [], _∷_, _++_}
-use lib.ListN.{length, replicate}
-use Rattle.wire.specs.Wire.{checkValue}
+use lib.ListN.{replicate}
+use Rattle.wire.specs.Wire.{frame}
 use Rattle.rules.specs.declared.Slot.{Slot}
 use Rattle.rules.specs.Words.{zeros, lowFirst}
 use Rattle.rules.specs.State.{slot, slotBytes}
-use Rattle.rules.specs.Events.{Event, wake, sleep, block}
+use Rattle.rules.specs.Events.{wake, sleep, block}
 use Rattle.token.specs.declared.Token.{Token}
-use Rattle.token.specs.Outcome.{freshOf}
 use Rattle.demands.specs.Calls.{Call, answerOf, after}
+use Rattle.demands.specs.Soundings.{call, asleep}
 use Rattle.demands.specs.Demand3.{Alike, Kept, drawsOn, spared, SameRun}
 
 -- ---- tokens
@@ -22,18 +22,11 @@ pub record Setting : Type 0 where
   pub lockValue : ℕ
   pub lockConfig : ℕ
 
--- zeros, but for CheckMacConfig 03 and SlotConfig: slot 0 open, slot 1 as set, slot 2 derived from slot 1, slot 3 read encrypted under slot 1
-abbrev pub configuration : Setting → List ℕ
-configuration x =
-    zeros 17
-    ++ (0x03 ∷ 0x00 ∷ 0x00 ∷ [])
-    ++ (0x00 ∷ 0x00 ∷ x .bits ∷ 0x00 ∷ 0x00 ∷ 0x31 ∷ 0xC1 ∷ 0x00 ∷ [])
-    ++ zeros 58
-    ++ (x .lockValue ∷ x .lockConfig ∷ [])
-
--- a fresh token whose slot 1 holds one byte 32 times; OTP and the other slots hold zeros
+-- a token of zeros but for CheckMacConfig 03, SlotConfig of slots 1 (as set), 2 (derived from slot 1) and 3 (read encrypted under slot 1), the
+-- lock bytes as set, and the first byte of slot 1
 unfoldable pub holding : Setting → ℕ → Token
-holding x secret = freshOf (configuration x ++ zeros 64 ++ zeros 32 ++ replicate 32 secret ++ zeros 448) .token
+holding x secret =
+    asleep ((17, 0x03) ∷ (22, x .bits) ∷ (25, 0x31) ∷ (26, 0xC1) ∷ (86, x .lockValue) ∷ (87, x .lockConfig) ∷ (184, secret) ∷ [])
 
 abbrev pub secretSlot : Slot
 secretSlot = slot 1
@@ -51,30 +44,24 @@ another = holding asDemanded 0x22
 -- ---- calls
 
 -- a whole block: count, opcode, Param1, Param2 (low byte first), data, check value (low byte first)
-abbrev pub sent : ℕ → ℕ → ℕ → List ℕ → Event
-sent opcode param1 param2 input = block (bytes ++ lowFirst (checkValue bytes)) where
-  bytes : List ℕ
-  bytes = (length input + 7) ∷ opcode ∷ param1 ∷ lowFirst param2 ++ input
-
--- with 32 random bytes and an output of 35, all zero
-abbrev pub call : Event → Call
-call e = record { event = e; random = zeros 32; output = zeros 35 }
+abbrev pub sent : ℕ → ℕ → ℕ → List ℕ → Call
+sent opcode param1 param2 input = call (block (frame (opcode ∷ param1 ∷ lowFirst param2 ++ input)))
 
 -- wake, and Nonce 3: TempKey is 32 bytes 44
 abbrev pub start : List Call
-start = call wake ∷ call (sent 0x16 0x03 0 (replicate 32 0x44)) ∷ []
+start = call wake ∷ sent 0x16 0x03 0 (replicate 32 0x44) ∷ []
 
 -- MAC of the slot and TempKey; Read of four bytes of slot 0
 abbrev pub macOfSlot : Call
-macOfSlot = call (sent 0x08 0x05 1 [])
+macOfSlot = sent 0x08 0x05 1 []
 
 abbrev pub readOpen : Call
-readOpen = call (sent 0x02 0x02 0 [])
+readOpen = sent 0x02 0x02 0 []
 
 abbrev pub run : List Call
 run = start ++ macOfSlot ∷ readOpen ∷ call sleep ∷ []
 
--- the response that is right for slot 0 and TempKey, and the one for the slot's bytes 11 and a challenge of zeros
+-- the response that is right for slot 0 and TempKey, and the one for a slot that begins with 11 and a challenge of zeros
 abbrev pub rightForOpen : List ℕ
 rightForOpen =
     0xB3 ∷ 0x61 ∷ 0xDD ∷ 0xBB ∷ 0x98 ∷ 0x83 ∷ 0xE0 ∷ 0xD9 ∷ 0x6E ∷ 0x5C ∷ 0x3D ∷ 0x7A ∷ 0x19 ∷ 0x99 ∷ 0x1E ∷ 0xB9 ∷
@@ -82,55 +69,55 @@ rightForOpen =
 
 abbrev pub rightForSlot : List ℕ
 rightForSlot =
-    0xAA ∷ 0x2F ∷ 0xCB ∷ 0xD9 ∷ 0xFB ∷ 0x5D ∷ 0x19 ∷ 0xEF ∷ 0x7E ∷ 0x90 ∷ 0xD3 ∷ 0xDB ∷ 0xC5 ∷ 0xA6 ∷ 0x94 ∷ 0xFA ∷
-    0xD0 ∷ 0xAD ∷ 0x22 ∷ 0x15 ∷ 0xBF ∷ 0x1C ∷ 0x43 ∷ 0x2D ∷ 0x6B ∷ 0x86 ∷ 0xC7 ∷ 0xD6 ∷ 0x1D ∷ 0x5A ∷ 0xA3 ∷ 0xD6 ∷ []
+    0xC7 ∷ 0x24 ∷ 0x61 ∷ 0x57 ∷ 0xE3 ∷ 0xBC ∷ 0xB1 ∷ 0x4E ∷ 0x4A ∷ 0xCA ∷ 0x96 ∷ 0x5F ∷ 0x31 ∷ 0x49 ∷ 0xF1 ∷ 0xD5 ∷
+    0x92 ∷ 0x3E ∷ 0x99 ∷ 0x30 ∷ 0xD6 ∷ 0xA3 ∷ 0x56 ∷ 0x2F ∷ 0x54 ∷ 0xB7 ∷ 0x24 ∷ 0x70 ∷ 0x32 ∷ 0xDA ∷ 0x09 ∷ 0xEA ∷ []
 
--- CheckMac of the slot with the response that is right where its bytes are 11; CheckMac of slot 0 with the right response, which copies
+-- CheckMac of the slot with the response that is right where it begins with 11; CheckMac of slot 0 with the right response, which copies
 -- the neighbouring slot to TempKey
 abbrev pub checkOfSlot : Call
-checkOfSlot = call (sent 0x28 0x00 1 (zeros 32 ++ rightForSlot ++ zeros 13))
+checkOfSlot = sent 0x28 0x00 1 (zeros 32 ++ rightForSlot ++ zeros 13)
 
 abbrev pub copyOfSlot : Call
-copyOfSlot = call (sent 0x28 0x05 0 (zeros 32 ++ rightForOpen ++ zeros 13))
+copyOfSlot = sent 0x28 0x05 0 (zeros 32 ++ rightForOpen ++ zeros 13)
 
 -- MAC of TempKey alone
 abbrev pub macOfTempKey : Call
-macOfTempKey = call (sent 0x08 0x07 0 [])
+macOfTempKey = sent 0x08 0x07 0 []
 
 -- GenDig of the slot; an encrypted Read of slot 3
 abbrev pub genDigOfSlot : Call
-genDigOfSlot = call (sent 0x15 0x02 1 [])
+genDigOfSlot = sent 0x15 0x02 1 []
 
 abbrev pub readEncrypted : Call
-readEncrypted = call (sent 0x02 0x82 24 [])
+readEncrypted = sent 0x02 0x82 24 []
 
 -- DeriveKey of slot 2 from the slot; a Read of slot 2
 abbrev pub deriveFromSlot : Call
-deriveFromSlot = call (sent 0x1C 0x04 2 [])
+deriveFromSlot = sent 0x1C 0x04 2 []
 
 abbrev pub readDerived : Call
-readDerived = call (sent 0x02 0x02 16 [])
+readDerived = sent 0x02 0x02 16 []
 
 -- Read of four bytes of the slot; GenDig of slot 0; an encrypted Read of the slot
 abbrev pub readSlot : Call
-readSlot = call (sent 0x02 0x02 8 [])
+readSlot = sent 0x02 0x02 8 []
 
 abbrev pub genDigOfOpen : Call
-genDigOfOpen = call (sent 0x15 0x02 0 [])
+genDigOfOpen = sent 0x15 0x02 0 []
 
 abbrev pub readSlotEncrypted : Call
-readSlotEncrypted = call (sent 0x02 0x82 8 [])
+readSlotEncrypted = sent 0x02 0x82 8 []
 
--- Lock of the values, with the summary that is right where the slot's bytes are 11
+-- Lock of the values, with the summary that is right where the slot begins with 11
 abbrev pub lockValues : Call
-lockValues = call (sent 0x17 0x01 0x1F1F [])
+lockValues = sent 0x17 0x01 0x5688 []
 
 -- Write of zeros to SlotConfig of slots 0 and 1; Lock of the configuration
 abbrev pub openSlot : Call
-openSlot = call (sent 0x12 0x00 5 (zeros 4))
+openSlot = sent 0x12 0x00 5 (zeros 4)
 
 abbrev pub lockConfiguration : Call
-lockConfiguration = call (sent 0x17 0x80 0 [])
+lockConfiguration = sent 0x17 0x80 0 []
 
 -- ---- what they show
 

@@ -1,8 +1,9 @@
 -- Proofs of the demands.
--- Shared: a rule's cases, answers, and what a call gives.
+-- Shared: a rule's cases, answers, what a call gives, and where commands store.
 pub mod Cases
 pub mod Answers
 pub mod Calling
+pub mod Stores
 -- Demand 1.
 pub mod Demand1
 -- Demand 3: two data zones equal beside a slot; then commands, events, calls and runs over them.
@@ -10,7 +11,6 @@ pub mod Beside
 pub mod KeyPlans
 pub mod ReadPlans
 pub mod SamePlans
-pub mod Stores
 pub mod Keeping
 pub mod SameTurns
 pub mod SameCalls

@@ -1,155 +1,178 @@
--- With both zones locked, no command stores in the configuration but in bytes 52 to 85: the uses, the update counts, UserExtra and Selector.
-use Prim.Native.Nat.{ℕ, zero, suc, _+_, _*_, _≤_, _<_}
-use mathlib.Core.Path.{_≡_, refl, sym}
-use mathlib.Core.Bool.{Bool, true, false, false≢true}
+-- Where commands store: in OTP, in data, in bytes 52 to 85 of the configuration (uses, update counts, UserExtra, Selector), below its byte 84
+-- while it is unlocked, and the 00 of a Lock of a zone that is open. What holds of all such stores holds of every store of a command.
+use Prim.Native.Nat.{ℕ, zero, suc, _+_, _*_, _%_, _≤_, _<_}
+use mathlib.Core.Path.{_≡_, refl, sym, _∙_}
+use mathlib.Core.Bool.{Bool, true, false, not, _&&_, _||_, false≢true}
 use mathlib.Core.List.{List, [], _∷_, _++_}
 use native.Mathlib.Omega.{arith}
-use borrow.Author.Tests.{ltb-true}
+use borrow.Author.Tests.{eqb-true, leb-true, ltb-true, not-true}
+use lib.ListN.{length}
 use Rattle.wire.specs.Wire.{if_then_else_}
 use Rattle.rules.specs.declared.Device.{Device}
 use Rattle.rules.specs.declared.Fields.{Fields}
 use Rattle.rules.specs.declared.Slot.{Slot}
-use Rattle.rules.specs.Words.{_⇒_, _is_, _under_, byte, bytes, equal}
-use Rattle.rules.specs.State.{index, key, configLocked, valuesLocked, bothLocked, useFlagAt, selectorAt, userExtraAt}
-use Rattle.rules.specs.Plan.{Store, inConfig, inOtp, inData, upwards, Plan, puts, refusedAfter}
-use Rattle.rules.specs.Uses.{limited, firstNonzero, useAt, clearHighest, spend}
-use Rattle.rules.specs.Address.{zone, position}
-use Rattle.rules.specs.Commands.{Command, aRead, aMac, aWrite, aGenDig, aNonce, aLock, aRandom, aDeriveKey, anUpdateExtra, aCheckMac, aDevRev, unknown, ruleOf, planOf}
-use Rattle.rules.specs.Nonce.{nonce, random, nonceInput, nonceRandom, usedRandom}
+use Rattle.rules.specs.Words.{_⇒_, _is_, _under_, _upTo_, bit, byte, bytes, equal, onlyBits}
+use Rattle.rules.specs.State.{index, key, configLocked}
+use Rattle.rules.specs.Plan.{Store, inConfig, inOtp, inData, upwards, Plan}
+use Rattle.rules.specs.Uses.{limited, firstNonzero, useAt, spend}
+use Rattle.rules.specs.Address.{zone, size, position, addressFits}
+use Rattle.rules.specs.Commands.{Command, aRead, aMac, aWrite, aGenDig, aNonce, aLock, aRandom, aDeriveKey, anUpdateExtra, aCheckMac, aDevRev, unknown, ruleOf, commandOf}
+use Rattle.rules.specs.Events.{planFor, opcodeOf, fieldsOf, inputOf}
+use Rattle.rules.specs.Nonce.{nonce, random, nonceInput, nonceRandom}
 use Rattle.rules.specs.Mac.{mac, keySpent, drawsKey}
 use Rattle.rules.specs.CheckMac.{checkMac, checkMacEffect}
 use Rattle.rules.specs.GenDig.{genDig, genDigSpent, fromData}
-use Rattle.rules.specs.DeriveKey.{deriveKey, deriveKeyStores, deriveKeyDraws, deriveKeyMac, derived, refilled, newTarget, parentDrawn, parent, asksMac}
+use Rattle.rules.specs.DeriveKey.{deriveKey, deriveKeyStores, deriveKeyMac, derived, refilled, newTarget, parentDrawn, parent, asksMac}
 use Rattle.rules.specs.Read.{read}
-use Rattle.rules.specs.Write.{write, writeFree, configWriteFree, writeEffect, writeMac, written, encrypted, otpWritten, plain}
-use Rattle.rules.specs.Upkeep.{lock, lockFree, updateExtra, devRev}
-use Rattle.rules.proofs.Tests.{and-left}
+use Rattle.rules.specs.Write.{write, writeShape, writeFree, configWriteFree, hasMac, writeEffect, writeMac, written, encrypted, otpWritten, plain}
+use Rattle.rules.specs.Upkeep.{lock, lockFree, zoneOpen, updateExtra, devRev}
+use Rattle.rules.proofs.Tests.{and-left, and-right}
 use Rattle.rules.proofs.Uses.{use-within}
 use Rattle.demands.proofs.Cases.{if-all, settle-all}
-use Rattle.demands.proofs.ReadPlans.{none-open}
+use Rattle.demands.proofs.Calling.{if-either}
 
-abbrev pub Usual : Store → Type 0
-Usual (inConfig at b) = (52 ≤ at) × (at ≤ 85)
-Usual (inOtp at b) = Unit {0}
-Usual (inData at b) = Unit {0}
+-- a property that holds of all the stores above, under a configuration
+pub record Allows (config : List ℕ) (P : Store → Type 0) : Type 0 where
+  pub otp : (at b : ℕ) → P (inOtp at b)
+  pub slots : (at b : ℕ) → P (inData at b)
+  pub counts : (at b : ℕ) → 52 ≤ at → at ≤ 85 → P (inConfig at b)
+  pub unlocked : configLocked config ≡ false → (at b : ℕ) → at < 84 → P (inConfig at b)
+  pub locks : (f : Fields) → zoneOpen config f ≡ true → (at : ℕ) → P (inConfig at 0x00)
 
-abbrev pub Usuals : List Store → Type 0
-Usuals [] = Unit {0}
-Usuals (x ∷ xs) = Usual x × Usuals xs
+abbrev pub All : (Store → Type 0) → List Store → Type 0
+All P [] = Unit {0}
+All P (x ∷ xs) = P x × All P xs
 
-append-usual : (xs ys : List Store) → Usuals xs → Usuals ys → Usuals (xs ++ ys)
-append-usual [] ys p q = q
-append-usual (x ∷ xs) ys p q = (p .0, append-usual xs ys (p .1) q)
-
-upwards-usual : (at : ℕ → ℕ → Store) → ((p b : ℕ) → Usual (at p b)) → (p : ℕ) (row : List ℕ) → Usuals (upwards at p row)
-upwards-usual at u p [] = tt
-upwards-usual at u p (b ∷ row) = (u p b, upwards-usual at u (p + 1) row)
-
--- ---- a use, and a refilled target
+-- ---- numbers
 
 first-above : (config : List ℕ) (at n : ℕ) → at ≤ firstNonzero config at n
 unfolding firstNonzero
 first-above config at zero = omega arith
 first-above config at (suc n) =
     let rest : at + 1 ≤ firstNonzero config (at + 1) n = first-above config (at + 1) n in
-    if-all (λ (m : ℕ). at ≤ m) (byte at config is 0) (firstNonzero config (at + 1) n) at (λ a. omega arith) (λ a. omega arith)
+    if-either (λ (m : ℕ). at ≤ m) (byte at config is 0) (omega arith) (omega arith)
 
 use-above : (config : List ℕ) (k : Slot) → 52 ≤ useAt config k
 unfolding useAt
 use-above config k =
     let last : 68 ≤ firstNonzero config 68 15 = first-above config 68 15 in
-    if-all (λ (m : ℕ). 52 ≤ m) (index k is 15) (firstNonzero config 68 15) (useFlagAt k) (λ a. omega arith) (λ a. omega arith)
+    if-either (λ (m : ℕ). 52 ≤ m) (index k is 15) (omega arith) (omega arith)
 
-spend-usual : (config : List ℕ) (k : Slot) → Usuals (spend config k)
-unfolding spend
-spend-usual config k =
-    if-all Usuals (limited config k) (inConfig (useAt config k) (clearHighest (byte (useAt config k) config)) ∷ []) []
-    (λ a. ((use-above config k, omega (arith, use-within config k)), tt))
-    (λ a. tt)
+-- bytes written to the configuration end before its byte 84
+size-fits : (wide : Bool) (n p : ℕ) → (if wide then n is 32 || n is 64 else n is 4) ≡ true → n is 64 ≡ false
+    → p + (if wide then 32 else 4) ≤ 84 → p + n ≤ 84
+size-fits true n p s m h = let e = eqb-true n 32 (or-first (n is 32) (n is 64) s m) in omega arith where
+  or-first : (a b : Bool) → (a || b) ≡ true → b ≡ false → a ≡ true
+  or-first true b h k = refl
+  or-first false b h k = sym k ∙ h
+size-fits false n p s m h = let e = eqb-true n 4 s in omega arith
 
--- a use that is spent only where a test passes
-spent-usual : (t : Bool) (config : List ℕ) (k : Slot) → Usuals (if t then spend config k else [])
-spent-usual t config k = if-all Usuals t (spend config k) [] (λ a. spend-usual config k) (λ a. tt)
+module _ (d : Device) (f : Fields) (input : List ℕ) (shape : writeShape f input ≡ true) (free : writeFree d f input ≡ true) (z : zone f is 0 ≡ true) where
+  unlocked-fits : (configLocked (d .config) ≡ false) × (position f + length input ≤ 84)
+  unfolding writeShape writeFree configWriteFree
+  unlocked-fits =
+      let no-lock : Bool = not (configLocked (d .config)) in
+      let clear : Bool = no-lock && not (bit 6 (f .param1)) in
+      let bare : Bool = clear && not (hasMac input) in
+      let above : Bool = bare && 16 upTo position f in
+      let all : (above && position f + size f upTo 84) ≡ true = rw z at free in
+      let bare-true : bare ≡ true = and-left bare (16 upTo position f) (and-left above _ all) in
+      let unlocked : no-lock ≡ true = and-left no-lock _ (and-left clear _ bare-true) in (
+        not-true (configLocked (d .config)) unlocked,
+        size-fits (bit 7 (f .param1)) (length input) (position f)
+            (and-right (onlyBits (7 ∷ 6 ∷ 1 ∷ 0 ∷ []) (f .param1) && addressFits f) _ shape)
+            (not-true (hasMac input) (and-right clear _ bare-true))
+            (leb-true (position f + size f) 84 (and-right above _ all)),
+      )
 
-refilled-usual : (config : List ℕ) (k : Slot) → Usuals (refilled config k)
-unfolding refilled
-refilled-usual config k =
-    if-all Usuals (index k under 8) _ []
-    (λ a. let l : index k < 8 = ltb-true (index k) 8 a in ((omega arith, omega arith), ((omega arith, omega arith), tt)))
-    (λ a. tt)
+-- ---- rows, uses, a key that is rolled, a write
 
--- ---- the commands that store
+module _ (P : Store → Type 0) where
+  all-append : (xs ys : List Store) → All P xs → All P ys → All P (xs ++ ys)
+  all-append [] ys p q = q
+  all-append (x ∷ xs) ys p q = (p .0, all-append xs ys (p .1) q)
 
-key-usual : (config : List ℕ) (f : Fields) → Usuals (keySpent config f)
-unfolding keySpent
-key-usual config f = spent-usual (drawsKey f) config (key f)
+  all-upwards : (at : ℕ → ℕ → Store) (top : ℕ) → ((p b : ℕ) → p < top → P (at p b)) → (p : ℕ) (row : List ℕ) → p + length row ≤ top
+      → All P (upwards at p row)
+  all-upwards at top each p [] h = tt
+  all-upwards at top each p (b ∷ row) h = (each p b (omega arith), all-upwards at top each (p + 1) row (omega arith))
 
-genDig-usual : (config : List ℕ) (f : Fields) → Usuals (genDigSpent config f)
-unfolding genDigSpent
-genDig-usual config f = spent-usual (fromData f) config (key f)
+module _ (P : Store → Type 0) (config : List ℕ) (w : Allows config P) where
+  all-data : (p : ℕ) (row : List ℕ) → All P (upwards inData p row)
+  all-data p row = all-upwards P inData (p + length row) (λ i b h. w .slots i b) p row (omega arith)
 
-derived-usual : (d : Device) (f : Fields) → Usuals (derived d f .stores)
-unfolding derived deriveKeyStores
-derived-usual d f =
-    let config = d .config in
-    let spent : List Store = if parentDrawn config f then spend config (parent config f) else [] in
-    let row = upwards inData (32 * index (key f)) (newTarget d f) in
-    append-usual (spent ++ row) (refilled config (key f))
-    (append-usual spent row (spent-usual (parentDrawn config f) config (parent config f))
-    (upwards-usual inData (λ p b. tt) (32 * index (key f)) (newTarget d f)))
-    (refilled-usual config (key f))
+  all-otp : (p : ℕ) (row : List ℕ) → All P (upwards inOtp p row)
+  all-otp p row = all-upwards P inOtp (p + length row) (λ i b h. w .otp i b) p row (omega arith)
 
-deriveKey-usual : (d : Device) (f : Fields) (input : List ℕ) → Usuals (deriveKey d f input .effect .stores)
-unfolding deriveKey
-deriveKey-usual d f input =
-    if-all (λ (p : Plan). Usuals (p .stores)) (asksMac (d .config) f ⇒ equal (deriveKeyMac d f) input) (derived d f)
-    (refusedAfter (deriveKeyDraws (d .config) f)) (λ a. derived-usual d f) (λ a. tt)
+  -- a use, spent where a test passes
+  all-spent : (t : Bool) (k : Slot) → All P (if t then spend config k else [])
+  unfolding spend
+  all-spent t k =
+      if-either (All P) t
+      (if-either (All P) (limited config k) (w .counts _ _ (use-above config k) (omega (arith, use-within config k)), tt) tt)
+      tt
 
--- a Write that is free does not go to the configuration
-not-config : (d : Device) (f : Fields) (input : List ℕ) → configLocked (d .config) ≡ true → writeFree d f input ≡ true → (zone f is 0) ≡ false
-unfolding writeFree configWriteFree
-not-config d f input c h = go (zone f is 0) _ (rw c at h) where
-  go : (t other : Bool) → (if t then false else other) ≡ true → t ≡ false
-  go true other h = sym h
-  go false other h = refl
+  all-refilled : (k : Slot) → All P (refilled config k)
+  unfolding refilled
+  all-refilled k =
+      if-all (All P) (index k under 8) _ []
+      (λ a. let l : index k < 8 = ltb-true (index k) 8 a in
+      (w .counts _ _ (omega arith) (omega arith), (w .counts _ _ (omega arith) (omega arith), tt)))
+      (λ a. tt)
 
-written-usual : (d : Device) (f : Fields) (value : List ℕ) → (zone f is 0) ≡ false → Usuals (written d f value)
-unfolding written
-written-usual d f value z =
-    rw z (if-all Usuals (zone f is 1) (upwards inOtp (position f) (otpWritten d f value)) (upwards inData (position f) value)
-    (λ o. upwards-usual inOtp (λ p b. tt) (position f) (otpWritten d f value))
-    (λ o. upwards-usual inData (λ p b. tt) (position f) value))
+-- ---- commands
 
-write-usual : (d : Device) (f : Fields) (input : List ℕ) → (zone f is 0) ≡ false → Usuals (writeEffect d f input .stores)
-unfolding writeEffect
-write-usual d f input z =
-    if-all (λ (p : Plan). Usuals (p .stores)) (encrypted (d .config) f) _ (puts (written d f input))
-    (λ e. if-all (λ (p : Plan). Usuals (p .stores)) (equal (writeMac d f input) (bytes 32 63 input))
-    (puts (written d f (plain d input))) (refusedAfter []) (λ m. written-usual d f (plain d input) z) (λ m. tt))
-    (λ e. written-usual d f input z)
+module _ (P : Store → Type 0) (d : Device) (w : Allows (d .config) P) where
+  abbrev AllPlan : Plan → Type 0
+  AllPlan p = All P (p .stores)
 
--- ---- all commands
+  all-written : (f : Fields) (value : List ℕ) → (zone f is 0 ≡ true → (configLocked (d .config) ≡ false) × (position f + length value ≤ 84))
+      → All P (written d f value)
+  unfolding written
+  all-written f value fits =
+      if-all (All P) (zone f is 0) _ _
+      (λ z. all-upwards P inConfig 84 (λ i b h. w .unlocked (fits z .0) i b h) (position f) value (fits z .1))
+      (λ z. if-either (All P) (zone f is 1) (all-otp P (d .config) w (position f) (otpWritten d f value)) (all-data P (d .config) w (position f) value))
 
-effect-usual : (c : Command) (d : Device) (f : Fields) (input supplied : List ℕ) → bothLocked (d .config) ≡ true
-    → ruleOf c d f input supplied .free ≡ true → Usuals (ruleOf c d f input supplied .effect .stores)
-unfolding read mac write genDig nonce lock lockFree random updateExtra checkMac checkMacEffect devRev nonceInput nonceRandom
-effect-usual aRead d f input supplied l b = tt
-effect-usual aMac d f input supplied l b = key-usual (d .config) f
-effect-usual aWrite d f input supplied l b =
-    write-usual d f input (not-config d f input (and-left (configLocked (d .config)) (valuesLocked (d .config)) l) b)
-effect-usual aGenDig d f input supplied l b = genDig-usual (d .config) f
-effect-usual aNonce d f input supplied l b =
-    if-all (λ (p : Plan). Usuals (p .stores)) (f .param1 is 3) (nonceInput input) (nonceRandom (usedRandom (d .config) supplied) f input) (λ a. tt) (λ a. tt)
-effect-usual aLock d f input supplied l b = absurd (false≢true (rw (none-open (d .config) f l) at b))
-effect-usual aRandom d f input supplied l b = tt
-effect-usual aDeriveKey d f input supplied l b = deriveKey-usual d f input
-effect-usual anUpdateExtra d f input supplied l b =
-    (if-all (λ (at : ℕ). (52 ≤ at) × (at ≤ 85)) (f .param1 is 1) selectorAt userExtraAt (λ a. omega arith) (λ a. omega arith), tt)
-effect-usual aCheckMac d f input supplied l b = key-usual (d .config) f
-effect-usual aDevRev d f input supplied l b = tt
-effect-usual unknown d f input supplied l b = tt
+  all-write : (f : Fields) (input : List ℕ) → writeShape f input ≡ true → writeFree d f input ≡ true → AllPlan (writeEffect d f input)
+  unfolding writeEffect encrypted
+  all-write f input shape free =
+      if-all AllPlan (encrypted (d .config) f) _ _
+      (λ e. if-either AllPlan (equal (writeMac d f input) (bytes 32 63 input)) (all-written f (plain d input) (λ z. absurd (false≢true (rw z at e)))) tt)
+      (λ e. all-written f input (unlocked-fits d f input shape free))
 
-pub plan-usual : (c : Command) (d : Device) (f : Fields) (input supplied : List ℕ) → bothLocked (d .config) ≡ true
-    → Usuals (planOf c d f input supplied .stores)
-plan-usual c d f input supplied l =
-    settle-all (λ (p : Plan). Usuals (p .stores)) (ruleOf c d f input supplied) (λ a b. effect-usual c d f input supplied l b) tt tt
+  all-derived : (f : Fields) → AllPlan (derived d f)
+  unfolding derived deriveKeyStores
+  all-derived f =
+      let config = d .config in
+      let spent : List Store = if parentDrawn config f then spend config (parent config f) else [] in
+      let row = upwards inData (32 * index (key f)) (newTarget d f) in
+      all-append P (spent ++ row) (refilled config (key f))
+      (all-append P spent row (all-spent P config w (parentDrawn config f) (parent config f)) (all-data P config w (32 * index (key f)) (newTarget d f)))
+      (all-refilled P config w (key f))
+
+  all-effect : (c : Command) (f : Fields) (input supplied : List ℕ) → ruleOf c d f input supplied .shape ≡ true → ruleOf c d f input supplied .free ≡ true
+      → AllPlan (ruleOf c d f input supplied .effect)
+  unfolding read mac write genDig nonce lock lockFree random updateExtra checkMac checkMacEffect devRev deriveKey nonceInput nonceRandom keySpent genDigSpent
+  all-effect aRead f input supplied shape free = tt
+  all-effect aMac f input supplied shape free = all-spent P (d .config) w (drawsKey f) (key f)
+  all-effect aWrite f input supplied shape free = all-write f input shape free
+  all-effect aGenDig f input supplied shape free = all-spent P (d .config) w (fromData f) (key f)
+  all-effect aNonce f input supplied shape free = if-either AllPlan (f .param1 is 3) tt tt
+  all-effect aLock f input supplied shape free = (w .locks f (and-left (zoneOpen (d .config) f) _ free) _, tt)
+  all-effect aRandom f input supplied shape free = tt
+  all-effect aDeriveKey f input supplied shape free = if-either AllPlan (asksMac (d .config) f ⇒ equal (deriveKeyMac d f) input) (all-derived f) tt
+  all-effect anUpdateExtra f input supplied shape free = (
+    if-either (λ (at : ℕ). P (inConfig at (f .param2 % 256))) (f .param1 is 1) (w .counts _ _ (omega arith) (omega arith))
+        (w .counts _ _ (omega arith) (omega arith)),
+    tt,
+  )
+  all-effect aCheckMac f input supplied shape free = all-spent P (d .config) w (drawsKey f) (key f)
+  all-effect aDevRev f input supplied shape free = tt
+  all-effect unknown f input supplied shape free = tt
+
+  pub all-stores : (b supplied : List ℕ) → AllPlan (planFor d b supplied)
+  unfolding planFor
+  all-stores b supplied =
+      let c : Command = commandOf (opcodeOf b) in
+      settle-all AllPlan (ruleOf c d (fieldsOf b) (inputOf b) supplied) (all-effect c (fieldsOf b) (inputOf b) supplied) tt tt

@@ -1,0 +1,60 @@
+-- `desk::chhutirok_idle` meets its contract: an event over the bytes of a state, or number 40.
+use mathlib.Core.Path.{sym, _∙_}
+use denote.Ref.{now}
+use Rattle.rules.specs.Events.{idle}
+use Rattle.desk.proofs.Laid.{state-length}
+use Rattle.desk.proofs.Calls.{given, refused}
+use borrow.Author.Needs.{needs}
+use Rattle.desk.proofs.chhutirok_idle.Statement.{statement}
+use Rattle.desk.proofs.chhutirok_idle.Tie as tie
+
+is-state-requires : tie.Need-is-state-requires
+is-state-requires c κs = search needs
+
+load-requires : tie.Need-load-requires
+load-requires c κs =
+    state-length (now (c .before .before .before .before .before .before .before .args .state)) (sym (c .before .before .is-state .ensures) ∙ c .before .if1 .taken)
+
+idle-requires : tie.Need-idle-requires
+idle-requires c κs = search needs
+
+give-requires : tie.Need-give-requires
+give-requires c κs =
+    state-length (now (c .before .before .before .before .before .before .before .before .before .before .before .before .before .before .args .state)) (sym (c .before .before .before .before .before .before .before .before .before .is-state .ensures) ∙ c .before .before .before .before .before .before .before .before .if1 .taken)
+
+refuse-requires : tie.Need-refuse-requires
+refuse-requires c κs = search needs
+
+same-length : tie.Need-same-length
+same-length c = search needs
+
+same-length-2 : tie.Need-same-length-2
+same-length-2 c = search needs
+
+returns : tie.Need-returns
+returns c =
+    let a = c .before .before .before .before .before .before .before .before .before .before .before .before .before .before .before .before .before .args in
+    given (now (a .state)) idle (now (a .random)) (now (a .output)) (sym (c .before .before .before .before .before .before .before .before .before .before .before .before .is-state .ensures) ∙ c .before .before .before .before .before .before .before .before .before .before .before .if1 .taken) (c .before .before .before .before .before .before .before .before .before .load .ensures) (c .before .before .before .before .before .before .before .idle .ensures) (c .before .before .give .ensures)
+
+same-length-3 : tie.Need-same-length-3
+same-length-3 c = search needs
+
+returns-2 : tie.Need-returns-2
+returns-2 c =
+    let a = c .before .before .before .before .before .before .before .before .args in
+    refused (now (a .state)) idle (now (a .random)) (now (a .output)) (sym (c .before .before .before .is-state .ensures) ∙ c .before .before .if1 .left) (c .refuse .ensures)
+
+pub chhutirok-idle-spec : {M : Type 1} → statement M
+chhutirok-idle-spec =
+    tie.close
+    (tie.spec
+    is-state-requires
+    load-requires
+    idle-requires
+    give-requires
+    refuse-requires
+    same-length
+    same-length-2
+    returns
+    same-length-3
+    returns-2)

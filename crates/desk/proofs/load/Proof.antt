@@ -1,0 +1,99 @@
+-- `desk::load` meets its contract: each zone is filled whole from its part of the bytes.
+use mathlib.Core.Path.{_≡_, refl, _∙_}
+use native.Mathlib.Omega.{arith}
+use denote.Ref.{now}
+use lib.ListN.{length}
+use Rattle.rules.specs.Words.{zeros}
+use Rattle.desk.specs.Desk.{loaded}
+use Rattle.desk.proofs.Laid.{laid-part}
+use borrow.Author.Needs.{needs}
+use Rattle.desk.proofs.load.Statement.{statement}
+use Rattle.desk.proofs.load.Tie as tie
+
+slice-aggregate-lay : tie.Need-slice-aggregate-lay
+slice-aggregate-lay c = search needs
+
+sub-lay : tie.Need-sub-lay
+sub-lay c = search needs
+
+part-lay-start : tie.Need-part-lay-start
+part-lay-start c = search needs
+
+part-lay-end : tie.Need-part-lay-end
+part-lay-end c = search needs
+
+lay-requires : tie.Need-lay-requires
+lay-requires c κs = search needs
+
+slice-aggregate-lay-2 : tie.Need-slice-aggregate-lay-2
+slice-aggregate-lay-2 c = search needs
+
+sub-lay-2 : tie.Need-sub-lay-2
+sub-lay-2 c = search needs
+
+part-lay-start-2 : tie.Need-part-lay-start-2
+part-lay-start-2 c = search needs
+
+part-lay-end-2 : tie.Need-part-lay-end-2
+part-lay-end-2 c = search needs
+
+lay-requires-2 : tie.Need-lay-requires-2
+lay-requires-2 c κs = search needs
+
+slice-aggregate-lay-3 : tie.Need-slice-aggregate-lay-3
+slice-aggregate-lay-3 c = search needs
+
+sub-lay-3 : tie.Need-sub-lay-3
+sub-lay-3 c = search needs
+
+part-lay-start-3 : tie.Need-part-lay-start-3
+part-lay-start-3 c = search needs
+
+part-lay-end-3 : tie.Need-part-lay-end-3
+part-lay-end-3 c = search needs
+
+lay-requires-3 : tie.Need-lay-requires-3
+lay-requires-3 c κs = search needs
+
+temp-key-in-requires : tie.Need-temp-key-in-requires
+temp-key-in-requires c κs = search needs
+
+shared-slice-read-power-of : tie.Need-shared-slice-read-power-of
+shared-slice-read-power-of c = search needs
+
+power-of-requires : tie.Need-power-of-requires
+power-of-requires c κs = search needs
+
+returns : tie.Need-returns
+unfolding loaded
+returns c =
+    let s = now (c .before .before .before .before .before .before .before .before .before .before .before .before .before .before .before .before .args .s) in
+    let h : length s ≡ 702 = c .before .before .before .before .before .before .before .before .before .before .before .before .before .before .before .before .pre in
+    let config = c .before .before .before .before .before .before .before .before .before .before .before .before .lay .ensures ∙ laid-part (zeros 88) s 0 88 refl (omega arith) in
+    let otp = c .before .before .before .before .before .before .before .before .lay2 .ensures ∙ laid-part (zeros 64) s 88 64 refl (omega arith) in
+    let «data» = c .before .before .before .before .lay3 .ensures ∙ laid-part (zeros 512) s 152 512 refl (omega arith) in
+    rw (config, otp, «data», c .before .before .temp-key-in .ensures, c .power-of .ensures)
+
+pub load-spec : {M : Type 1} → statement M
+load-spec =
+    tie.close
+    (tie.spec
+    slice-aggregate-lay
+    sub-lay
+    part-lay-start
+    part-lay-end
+    lay-requires
+    slice-aggregate-lay-2
+    sub-lay-2
+    part-lay-start-2
+    part-lay-end-2
+    lay-requires-2
+    slice-aggregate-lay-3
+    sub-lay-3
+    part-lay-start-3
+    part-lay-end-3
+    lay-requires-3
+    temp-key-in-requires
+    shared-slice-read-power-of
+    power-of-requires
+    returns)

@@ -1,0 +1,2 @@
+-- The desk's C interface.
+pub mod Desk

@@ -182,19 +182,19 @@ pub extern "C" fn chhutirok_wake(
     state: &mut [u8],
     random: &[u8],
     output: &mut [u8],
-    len: &mut usize,
+    length: &mut usize,
 ) -> u32
     ensures { λ r. ⌜ r ≡ number (now (state .entry)) wake (now (random .entry)) (now (output .entry)) ⌝ }
     ensures { λ r. ⌜ now (state .exit) ≡ stateAfter (now (state .entry)) wake (now (random .entry)) (now (output .entry)) ⌝ }
     ensures { λ r. ⌜ now (output .exit) ≡ outputOf (now (state .entry)) wake (now (random .entry)) (now (output .entry)) ⌝ }
-    ensures { λ r. ⌜ now (len .exit) ≡ answerLength (now (state .entry)) wake (now (random .entry)) (now (output .entry)) ⌝ }
+    ensures { λ r. ⌜ now (length .exit) ≡ answerLength (now (state .entry)) wake (now (random .entry)) (now (output .entry)) ⌝ }
 {
     if is_state(state) {
         let t = load(state);
         let o = t.wake(random, output);
-        give(o, state, len)
+        give(o, state, length)
     } else {
-        refuse(len)
+        refuse(length)
     }
 }
 
@@ -203,19 +203,19 @@ pub extern "C" fn chhutirok_idle(
     state: &mut [u8],
     random: &[u8],
     output: &mut [u8],
-    len: &mut usize,
+    length: &mut usize,
 ) -> u32
     ensures { λ r. ⌜ r ≡ number (now (state .entry)) idle (now (random .entry)) (now (output .entry)) ⌝ }
     ensures { λ r. ⌜ now (state .exit) ≡ stateAfter (now (state .entry)) idle (now (random .entry)) (now (output .entry)) ⌝ }
     ensures { λ r. ⌜ now (output .exit) ≡ outputOf (now (state .entry)) idle (now (random .entry)) (now (output .entry)) ⌝ }
-    ensures { λ r. ⌜ now (len .exit) ≡ answerLength (now (state .entry)) idle (now (random .entry)) (now (output .entry)) ⌝ }
+    ensures { λ r. ⌜ now (length .exit) ≡ answerLength (now (state .entry)) idle (now (random .entry)) (now (output .entry)) ⌝ }
 {
     if is_state(state) {
         let t = load(state);
         let o = t.idle(random, output);
-        give(o, state, len)
+        give(o, state, length)
     } else {
-        refuse(len)
+        refuse(length)
     }
 }
 
@@ -224,19 +224,19 @@ pub extern "C" fn chhutirok_sleep(
     state: &mut [u8],
     random: &[u8],
     output: &mut [u8],
-    len: &mut usize,
+    length: &mut usize,
 ) -> u32
     ensures { λ r. ⌜ r ≡ number (now (state .entry)) sleep (now (random .entry)) (now (output .entry)) ⌝ }
     ensures { λ r. ⌜ now (state .exit) ≡ stateAfter (now (state .entry)) sleep (now (random .entry)) (now (output .entry)) ⌝ }
     ensures { λ r. ⌜ now (output .exit) ≡ outputOf (now (state .entry)) sleep (now (random .entry)) (now (output .entry)) ⌝ }
-    ensures { λ r. ⌜ now (len .exit) ≡ answerLength (now (state .entry)) sleep (now (random .entry)) (now (output .entry)) ⌝ }
+    ensures { λ r. ⌜ now (length .exit) ≡ answerLength (now (state .entry)) sleep (now (random .entry)) (now (output .entry)) ⌝ }
 {
     if is_state(state) {
         let t = load(state);
         let o = t.sleep(random, output);
-        give(o, state, len)
+        give(o, state, length)
     } else {
-        refuse(len)
+        refuse(length)
     }
 }
 
@@ -246,18 +246,18 @@ pub extern "C" fn chhutirok_block(
     sent: &[u8],
     random: &[u8],
     output: &mut [u8],
-    len: &mut usize,
+    length: &mut usize,
 ) -> u32
     ensures { λ r. ⌜ r ≡ number (now (state .entry)) (block (now (sent .entry))) (now (random .entry)) (now (output .entry)) ⌝ }
     ensures { λ r. ⌜ now (state .exit) ≡ stateAfter (now (state .entry)) (block (now (sent .entry))) (now (random .entry)) (now (output .entry)) ⌝ }
     ensures { λ r. ⌜ now (output .exit) ≡ outputOf (now (state .entry)) (block (now (sent .entry))) (now (random .entry)) (now (output .entry)) ⌝ }
-    ensures { λ r. ⌜ now (len .exit) ≡ answerLength (now (state .entry)) (block (now (sent .entry))) (now (random .entry)) (now (output .entry)) ⌝ }
+    ensures { λ r. ⌜ now (length .exit) ≡ answerLength (now (state .entry)) (block (now (sent .entry))) (now (random .entry)) (now (output .entry)) ⌝ }
 {
     if is_state(state) {
         let t = load(state);
         let o = t.block(sent, random, output);
-        give(o, state, len)
+        give(o, state, length)
     } else {
-        refuse(len)
+        refuse(length)
     }
 }

@@ -16,6 +16,12 @@ module _ {K : Type 0} {A R L : K → Type 0} (Pre : (κs : K) → A κs → Type
     pub total : Total
     pub both : (κs : K) (a : A κs) (x y : R κs) (l m : L κs) → Post κs a x l → Post κs a y m → (x ≡ y) × (lent κs l ≡ lent κs m)
 
+  -- the same of the result and of three things that are lent
+  pub record FixedLents {B C D : Type 0} (first : (κs : K) → L κs → B) (second : (κs : K) → L κs → C) (third : (κs : K) → L κs → D) : Type 0 where
+    pub total : Total
+    pub all : (κs : K) (a : A κs) (x y : R κs) (l m : L κs) → Post κs a x l → Post κs a y m
+        → (x ≡ y) × ((first κs l ≡ first κs m) × ((second κs l ≡ second κs m) × (third κs l ≡ third κs m)))
+
   -- the same of what a returned reference holds, which `seen` reads off it
   pub record FixedSeen {B : Type 0} (seen : (κs : K) → R κs → B) : Type 0 where
     pub total : Total
@@ -27,3 +33,8 @@ one p q = p ∙ sym q
 
 pub both : {A B : Type 0} {x y z : A} {u v w : B} → (x ≡ z) × (u ≡ w) → (y ≡ z) × (v ≡ w) → (x ≡ y) × (u ≡ v)
 both p q = (one (p .0) (q .0), one (p .1) (q .1))
+
+pub all : {A B C D : Type 0} {x y z : A} {s t u : B} {o p q : C} {i j k : D}
+    → (x ≡ z) × ((s ≡ u) × ((o ≡ q) × (i ≡ k))) → (y ≡ z) × ((t ≡ u) × ((p ≡ q) × (j ≡ k)))
+    → (x ≡ y) × ((s ≡ t) × ((o ≡ p) × (i ≡ j)))
+all a b = (one (a .0) (b .0), (one (a .1 .0) (b .1 .0), both (a .1 .1) (b .1 .1)))

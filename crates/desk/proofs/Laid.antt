@@ -1,20 +1,15 @@
--- The layout: bytes laid over others, the parts of a state, and that loading and saving undo each other.
+-- The layout: bytes laid over others, one part after the other, and the length of a state.
 use Prim.Native.Nat.{ℕ, suc, _+_, _≤_, _<_}
-use mathlib.Core.Path.{_≡_, refl, sym, ap, _∙_}
-use mathlib.Core.Bool.{Bool, true, false}
-use mathlib.Core.List.{List, [], _∷_, _++_, append-nil, append-assoc}
+use mathlib.Core.Path.{_≡_, refl, sym, _∙_}
+use mathlib.Core.Bool.{true}
+use mathlib.Core.List.{List, _++_}
 use native.Mathlib.Omega.{arith}
-use native.Mathlib.Nat.{not-suc-le-zero, le-of-suc-le-suc}
 use native.Mathlib.Numerals.{add-one}
 use lib.ListN.{length, getD, take, drop, set, length-append, length-take, length-drop, drop-of-length-le}
-use lib.Seq.{sets, sets-eq, length-sets, length-take-le, take-all, take-at, drop-at, take-add, drop-cons, getD-append-add}
-use borrow.Author.Tests.{eqb-true, leb-true}
-use Rattle.rules.proofs.Tests.{and-left, and-right}
-use Rattle.rules.specs.declared.Power.{Power}
-use Rattle.rules.specs.declared.Power.the-variants.{Asleep, Idle, Awake}
-use Rattle.rules.specs.Words.{_upTo_, byte, bytes}
-use Rattle.token.specs.declared.Token.{Token}
-use Rattle.desk.specs.Desk.{inRange, isState, flag, flagByte, power, powerByte, tempKeyIn, loaded, lastSix, saved}
+use lib.Seq.{sets, sets-eq, length-sets, take-all, take-at, drop-cons}
+use borrow.Author.Tests.{eqb-true}
+use Rattle.rules.proofs.Tests.{and-left}
+use Rattle.desk.specs.Desk.{isState}
 
 pub state-length : (s : List ℕ) → isState s ≡ true → length s ≡ 702
 unfolding isState

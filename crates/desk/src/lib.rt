@@ -1,6 +1,5 @@
 // The desk's C interface (include/chhutirok.h): a token is 702 lent bytes, which each call loads and saves.
 ghost use mathlib.Core.Path.{_≡_};
-ghost use mathlib.Core.Bool.{true};
 ghost use Prim.Native.Nat.{_+_, _≤_};
 ghost use lib.ListN.{length};
 ghost use lib.Seq.{sets};

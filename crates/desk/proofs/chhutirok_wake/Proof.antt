@@ -13,14 +13,16 @@ is-state-requires c κs = search needs
 
 load-requires : tie.Need-load-requires
 load-requires c κs =
-    state-length (now (c .before .before .before .before .before .before .before .args .state)) (sym (c .before .before .is-state .ensures) ∙ c .before .if1 .taken)
+    let test = c .before in
+    state-length (now (test .before .before .before .before .before .before .args .state)) (sym (test .before .is-state .ensures) ∙ test .if1 .taken)
 
 wake-requires : tie.Need-wake-requires
 wake-requires c κs = search needs
 
 give-requires : tie.Need-give-requires
 give-requires c κs =
-    state-length (now (c .before .before .before .before .before .before .before .before .before .before .before .before .before .before .args .state)) (sym (c .before .before .before .before .before .before .before .before .before .is-state .ensures) ∙ c .before .before .before .before .before .before .before .before .if1 .taken)
+    let test = c .before .before .before .before .before .before .before .before in
+    state-length (now (test .before .before .before .before .before .before .args .state)) (sym (test .before .is-state .ensures) ∙ test .if1 .taken)
 
 refuse-requires : tie.Need-refuse-requires
 refuse-requires c κs = search needs
@@ -33,16 +35,22 @@ same-length-2 c = search needs
 
 returns : tie.Need-returns
 returns c =
-    let a = c .before .before .before .before .before .before .before .before .before .before .before .before .before .before .before .before .before .args in
-    given (now (a .state)) wake (now (a .random)) (now (a .output)) (sym (c .before .before .before .before .before .before .before .before .before .before .before .before .is-state .ensures) ∙ c .before .before .before .before .before .before .before .before .before .before .before .if1 .taken) (c .before .before .before .before .before .before .before .before .before .load .ensures) (c .before .before .before .before .before .before .before .wake .ensures) (c .before .before .give .ensures)
+    let giving = c .before .before in
+    let event = giving .before .before .before .before .before in
+    let loading = event .before .before in
+    let test = loading .before .before in
+    let a = test .before .before .before .before .before .before .args in
+    given (now (a .state)) wake (now (a .random)) (now (a .output)) (sym (test .before .is-state .ensures) ∙ test .if1 .taken)
+    (loading .load .ensures) (event .wake .ensures) (giving .give .ensures)
 
 same-length-3 : tie.Need-same-length-3
 same-length-3 c = search needs
 
 returns-2 : tie.Need-returns-2
 returns-2 c =
-    let a = c .before .before .before .before .before .before .before .before .args in
-    refused (now (a .state)) wake (now (a .random)) (now (a .output)) (sym (c .before .before .before .is-state .ensures) ∙ c .before .before .if1 .left) (c .refuse .ensures)
+    let test = c .before .before in
+    let a = test .before .before .before .before .before .before .args in
+    refused (now (a .state)) wake (now (a .random)) (now (a .output)) (sym (test .before .is-state .ensures) ∙ test .if1 .left) (c .refuse .ensures)
 
 pub chhutirok-wake-spec : {M : Type 1} → statement M
 chhutirok-wake-spec =

@@ -67,11 +67,15 @@ power-of-requires c κs = search needs
 returns : tie.Need-returns
 unfolding loaded
 returns c =
-    let s = now (c .before .before .before .before .before .before .before .before .before .before .before .before .before .before .before .before .args .s) in
-    let h : length s ≡ 702 = c .before .before .before .before .before .before .before .before .before .before .before .before .before .before .before .before .pre in
-    let config = c .before .before .before .before .before .before .before .before .before .before .before .before .lay .ensures ∙ laid-part (zeros 88) s 0 88 refl (omega arith) in
-    let otp = c .before .before .before .before .before .before .before .before .lay2 .ensures ∙ laid-part (zeros 64) s 88 64 refl (omega arith) in
-    let «data» = c .before .before .before .before .lay3 .ensures ∙ laid-part (zeros 512) s 152 512 refl (omega arith) in
+    let third = c .before .before .before .before in
+    let second = third .before .before .before .before in
+    let first = second .before .before .before .before in
+    let start = first .before .before .before .before in
+    let s = now (start .args .s) in
+    let h : length s ≡ 702 = start .pre in
+    let config = first .lay .ensures ∙ laid-part (zeros 88) s 0 88 refl (omega arith) in
+    let otp = second .lay2 .ensures ∙ laid-part (zeros 64) s 88 64 refl (omega arith) in
+    let «data» = third .lay3 .ensures ∙ laid-part (zeros 512) s 152 512 refl (omega arith) in
     rw (config, otp, «data», c .before .before .temp-key-in .ensures, c .power-of .ensures)
 
 pub load-spec : {M : Type 1} → statement M

@@ -14,7 +14,8 @@ slice-aggregate-lay c = search needs
 
 lay-requires : tie.Need-lay-requires
 lay-requires c κs =
-    let h1 : length (c .before .before .before .before .before .args .t .device .config) ≡ 88 = search (needs, c .before .before .before .before .before .good) in
+    let start = c .before .before .before .before .before in
+    let h : length (start .args .t .device .config) ≡ 88 = search (needs, start .good) in
     omega arith
 
 slice-aggregate-lay-2 : tie.Need-slice-aggregate-lay-2
@@ -22,7 +23,8 @@ slice-aggregate-lay-2 c = search needs
 
 lay-requires-2 : tie.Need-lay-requires-2
 lay-requires-2 c κs =
-    let h2 : length (c .before .before .before .before .before .before .before .before .before .before .before .args .t .device .otp) ≡ 64 = search (needs, c .before .before .before .before .before .before .before .before .before .before .before .good) in
+    let start = c .before .before .before .before .before .before .before .before .before .before .before in
+    let h : length (start .args .t .device .otp) ≡ 64 = search (needs, start .good) in
     omega arith
 
 slice-aggregate-lay-3 : tie.Need-slice-aggregate-lay-3
@@ -30,17 +32,20 @@ slice-aggregate-lay-3 c = search needs
 
 lay-requires-3 : tie.Need-lay-requires-3
 lay-requires-3 c κs =
-    let h3 : length (c .before .before .before .before .before .before .before .before .before .before .before .before .before .before .before .before .before .args .t .device .«data») ≡ 512 = search (needs, c .before .before .before .before .before .before .before .before .before .before .before .before .before .before .before .before .before .good) in
+    let start = c .before .before .before .before .before .before .before .before .before .before .before .before .before .before .before .before .before in
+    let h : length (start .args .t .device .«data») ≡ 512 = search (needs, start .good) in
     omega arith
 
 slice-aggregate-lay-4 : tie.Need-slice-aggregate-lay-4
 slice-aggregate-lay-4 c =
-    let h4 : length (c .before .before .before .before .before .before .before .before .before .before .before .before .before .before .before .before .before .before .before .before .before .before .before .before .args .t .device .tempKey .bytes) ≡ 32 = search (needs, c .before .before .before .before .before .before .before .before .before .before .before .before .before .before .before .before .before .before .before .before .before .before .before .before .good) in
+    let start = c .before .before .before .before .before .before .before .before .before .before .before .before .before .before .before .before .before .before .before .before .before .before .before .before in
+    let h : length (start .args .t .device .tempKey .bytes) ≡ 32 = search (needs, start .good .1 .0 .1 .1 .0 .1 .1 .1) in
     omega arith
 
 lay-requires-4 : tie.Need-lay-requires-4
 lay-requires-4 c κs =
-    let h4 : length (c .before .before .before .before .before .before .before .before .before .before .before .before .before .before .before .before .before .before .before .before .before .before .before .before .args .t .device .tempKey .bytes) ≡ 32 = search (needs, c .before .before .before .before .before .before .before .before .before .before .before .before .before .before .before .before .before .before .before .before .before .before .before .before .good) in
+    let start = c .before .before .before .before .before .before .before .before .before .before .before .before .before .before .before .before .before .before .before .before .before .before .before .before in
+    let h : length (start .args .t .device .tempKey .bytes) ≡ 32 = search (needs, start .good .1 .0 .1 .1 .0 .1 .1 .1) in
     omega arith
 
 last-six-requires : tie.Need-last-six-requires
@@ -64,10 +69,15 @@ returns c =
     let h2 : length (d .otp) ≡ 64 = search (needs, start .good) in
     let h3 : length (d .«data») ≡ 512 = search (needs, start .good) in
     let h4 : length (d .tempKey .bytes) ≡ 32 = search (needs, start .good .1 .0 .1 .1 .0 .1 .1 .1) in
-    let end = c .before .before .before .before .before .last-six in
-    laid (now (start .args .s)) (d .config) (d .otp) (d .«data») (d .tempKey .bytes) (end .result) (start .pre) h1 h2 h3 h4 (search needs)
-    (c .before .before .before .before .before .before .before .before .before .before .before .before .before .before .before .before .before .before .before .before .before .before .before .before .before .before .before .lay .ensures) (c .before .before .before .before .before .before .before .before .before .before .before .before .before .before .before .before .before .before .before .before .before .lay2 .ensures) (c .before .before .before .before .before .before .before .before .before .before .before .before .before .before .before .lay3 .ensures) (c .before .before .before .before .before .before .before .before .lay4 .ensures) (c .before .before .lay5 .ensures)
-    ∙ rw (end .ensures)
+    let six = c .before .before .before .before .before .last-six in
+    let h5 : length (six .result) ≡ 6 = search needs in
+    let fourth = c .before .before .before .before .before .before .before .before in
+    let third = fourth .before .before .before .before .before .before .before in
+    let second = third .before .before .before .before .before .before in
+    let first = second .before .before .before .before .before .before in
+    laid (now (start .args .s)) (d .config) (d .otp) (d .«data») (d .tempKey .bytes) (six .result) (start .pre) h1 h2 h3 h4 h5
+    (first .lay .ensures) (second .lay2 .ensures) (third .lay3 .ensures) (fourth .lay4 .ensures) (c .before .before .lay5 .ensures)
+    ∙ rw (six .ensures)
 
 pub save-spec : {M : Type 1} → statement M
 save-spec =

@@ -13,8 +13,8 @@
 use std::fs;
 
 use crate::arguments;
-use crate::layout::IMAGE_LENGTH;
 use crate::generate::Step;
+use crate::layout::IMAGE_LENGTH;
 
 pub struct Case {
     pub name: String,

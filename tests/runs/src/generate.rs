@@ -4,8 +4,8 @@
 use std::collections::VecDeque;
 
 use crate::chains::Scene;
-use crate::layout::IMAGE_LENGTH;
 use crate::engine::{front, Event, Power, Slot, TempKey, Token};
+use crate::layout::IMAGE_LENGTH;
 use crate::random::Random;
 use crate::table::Table;
 use crate::{images, near};
@@ -110,6 +110,7 @@ impl Generator {
     }
 
     /// Between two chains: the token with a TempKey and a power that no event need have left, as a caller may hand them in.
+    /// A use of that TempKey comes next.
     pub fn plant(&mut self) -> Option<Token> {
         if !self.waiting.is_empty() {
             return None;
@@ -122,7 +123,10 @@ impl Generator {
             check_flag: self.random.once_in(4),
             valid: !self.random.once_in(4),
         };
-        self.token.power = self.random.pick(&[Power::Awake, Power::Awake, Power::Idle, Power::Asleep]);
+        self.token.power = if self.random.once_in(8) { self.random.pick(&[Power::Idle, Power::Asleep]) } else { Power::Awake };
+        let mut scene = Scene::new(self.token, &mut self.random);
+        scene.use_temp_key();
+        self.waiting.extend(scene.steps);
         Some(self.token)
     }
 }

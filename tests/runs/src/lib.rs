@@ -5,10 +5,12 @@ pub mod arguments;
 pub mod cases;
 pub mod chains;
 pub mod desk;
+#[rustfmt::skip] // adopted as it came
 pub mod engine;
 pub mod generate;
 pub mod host;
 pub mod images;
+pub mod keys;
 pub mod layout;
 pub mod near;
 pub mod program;

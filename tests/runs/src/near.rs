@@ -8,7 +8,7 @@ use crate::random::Random;
 pub fn spoil(steps: &mut Vec<Step>, random: &mut Random) {
     let blocks: Vec<usize> = (0..steps.len()).filter(|&at| matches!(steps[at], Step::Block { .. })).collect();
     let Some(&last) = blocks.last() else { return };
-    let at = if random.once_in(4) { random.pick(&blocks) } else { last };
+    let at = if random.once_in(3) { random.pick(&blocks) } else { last };
     if random.once_in(5) {
         interrupt(steps, at, random);
         return;
@@ -92,16 +92,25 @@ fn damage(bytes: &mut Vec<u8>, random: &mut Random) {
 
 /// Something comes in between: TempKey may be gone, or the token not Awake.
 fn interrupt(steps: &mut Vec<Step>, at: usize, random: &mut Random) {
-    let block = |bytes: Vec<u8>| Step::Block { bytes, random: [0x5A; 32] };
     let between = match random.below(8) {
         0 => vec![Step::Sleep, Step::Wake],
         1 => vec![Step::Idle, Step::Wake],
         2 => vec![Step::Wake],
         3 => vec![Step::Sleep],
         4 => vec![Step::Idle],
-        5 => vec![block(host::block(0x30, 0, 0, &[]))],
-        6 => vec![block(host::block(0x47, 0, 0, &[]))],
-        _ => vec![block(vec![0x07, 0x30, 0x00, 0x00, 0x00, 0x03, 0x5E])],
+        _ => vec![Step::Block { bytes: other_block(random), random: random.array() }],
     };
     steps.splice(at..at, between);
+}
+
+/// A block that has nothing to do with the chain: accepted, refused or damaged.
+fn other_block(random: &mut Random) -> Vec<u8> {
+    match random.below(6) {
+        0 => host::block(0x30, 0, 0, &[]),
+        1 => host::block(0x1B, 0, 0, &[]),
+        2 => host::block(0x02, 0, 5, &[]),
+        3 => host::block(0x20, 0, 7, &[]),
+        4 => host::block(0x47, 0, 0, &[]),
+        _ => vec![0x07, 0x30, 0x00, 0x00, 0x00, 0x03, 0x5E],
+    }
 }

@@ -20,7 +20,7 @@ impl Random {
 
     /// A number under n.
     pub fn below(&mut self, n: usize) -> usize {
-        (u64::from(self.next()) * n as u64 >> 32) as usize
+        ((u64::from(self.next()) * n as u64) >> 32) as usize
     }
 
     /// True once in n times.

@@ -131,13 +131,8 @@ pub struct Table {
 }
 
 impl Table {
-    pub const EMPTY: Table = Table {
-        pairs: [[0; 5]; 12],
-        unanswered: 0,
-        places: [0; PLACES.len()],
-        last_uses: [0; 9],
-        refused_uses: [0; 9],
-    };
+    pub const EMPTY: Table =
+        Table { pairs: [[0; 5]; 12], unanswered: 0, places: [0; PLACES.len()], last_uses: [0; 9], refused_uses: [0; 9] };
 
     pub fn count(&mut self, before: &Token, block: &[u8], answer: &[u8], after: &Token) {
         if answer.is_empty() {
@@ -188,7 +183,10 @@ impl Table {
 
     /// Prints the table; each pair and each place is a case.
     pub fn report(&self, tally: &mut Tally) {
-        println!("{:<14}{:>10}{:>10}{:>10}{:>10}{:>12}", "opcode", STATUSES[0], STATUSES[1], STATUSES[2], STATUSES[3], STATUSES[4]);
+        println!(
+            "{:<14}{:>10}{:>10}{:>10}{:>10}{:>12}",
+            "opcode", STATUSES[0], STATUSES[1], STATUSES[2], STATUSES[3], STATUSES[4]
+        );
         let names = COMMANDS.map(|(opcode, name, _)| format!("{opcode:02X} {name}"));
         for (row, counts) in self.pairs.iter().enumerate() {
             let name = names.get(row).map_or("others", |name| name);

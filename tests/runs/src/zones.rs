@@ -44,9 +44,10 @@ impl Scene<'_> {
         }
     }
 
-    /// With the right MAC. Bit 6 says so only while values are unlocked.
+    /// With the right MAC. Bit 6 says so only while values are unlocked; now and then it is wrong, and the MAC right for it.
     pub fn write_encrypted(&mut self, zone: u8, slot: u8) {
-        let bit_6 = if host::values_locked(&self.token) { 0 } else { 0x40 };
+        let says_so = host::values_locked(&self.token) == self.random.once_in(8);
+        let bit_6 = if says_so { 0x40 } else { 0 };
         let param1 = 0x80 | bit_6 | zone;
         let word = self.word_of(if zone == 1 { slot & 1 } else { slot });
         let plain = self.random.array();
@@ -77,39 +78,40 @@ impl Scene<'_> {
 
     /// To the zone that the locks leave open, or by WriteConfig and OTPmode; then a look at what it left.
     pub fn clear_write(&mut self) {
-        if !host::config_locked(&self.token) && !self.random.once_in(8) {
+        if host::config_locked(&self.token) == self.random.once_in(8) {
             return self.write_configuration();
         }
-        let bit_7 = if host::values_locked(&self.token) { self.random.pick(&[0, 0x80]) } else { 0x80 };
-        let data = self.random.bytes(if bit_7 == 0 { 4 } else { 32 });
-        if self.random.once_in(3) {
-            let word = self.random.below(16) as u16;
-            self.send(0x12, bit_7 | 1, word, &data);
-            self.send(0x02, bit_7 | 1, word, &[]);
+        let four = self.random.once_in(if host::values_locked(&self.token) { 2 } else { 8 });
+        let bit_7 = if four { 0 } else { 0x80 };
+        let bit_6 = if self.random.once_in(16) { 0x40 } else { 0 };
+        let data = self.random.bytes(if four { 4 } else { 32 });
+        let (zone, word) = if self.random.once_in(3) {
+            (1, self.random.below(16) as u16)
         } else {
             let slot = self.slot_where(|token, slot| {
                 let config = SlotConfig::of(token, slot);
-                config.0 & 0xE000 == 0 && (bit_7 != 0 || !config.is_secret())
+                config.0 & 0xE000 == 0 && (!four || !config.is_secret())
             });
-            let word = self.word_of(slot);
-            self.send(0x12, bit_7 | 2, word, &data);
-            self.send(0x02, bit_7 | 2, word, &[]);
-        }
+            (2, self.word_of(slot))
+        };
+        self.send(0x12, bit_7 | bit_6 | zone, word, &data);
+        self.send(0x02, bit_7 | zone, word, &[]);
     }
 
-    /// Bytes 16 to 83; SlotConfigs that mean something in their place.
+    /// Bytes 16 to 83, SlotConfigs that mean something in their place; now and then a word that is never written.
     fn write_configuration(&mut self) {
-        let word = self.random.pick(&[4, 5, 6, 7, 8, 9, 10, 11, 12, 13, 16, 17, 20]);
+        let word = self.random.pick(&[0, 3, 4, 4, 5, 6, 7, 8, 9, 10, 11, 12, 13, 16, 17, 20, 21]);
         let mut data = self.random.array::<4>();
         if (5..13).contains(&word) {
             let [a, b] = [(); 2].map(|()| images::slot_config(self.random).to_le_bytes());
             data = [a[0], a[1], b[0], b[1]];
         }
+        let bit_6 = if self.random.once_in(16) { 0x40 } else { 0 };
         if self.random.once_in(4) {
             let block: [u8; 32] = self.random.array();
-            self.send(0x12, 0x80, 8 + word % 8, &block);
+            self.send(0x12, 0x80 | bit_6, word, &block);
         } else {
-            self.send(0x12, 0x00, word, &data);
+            self.send(0x12, bit_6, word, &data);
         }
     }
 
@@ -175,14 +177,30 @@ impl Scene<'_> {
         }
     }
 
-    /// A whole block of anything.
+    /// A whole block of anything, its length more often than not one that the command takes.
     pub fn noise(&mut self) {
-        const KNOWN: [u8; 11] = [0x02, 0x08, 0x12, 0x15, 0x16, 0x17, 0x1B, 0x1C, 0x20, 0x28, 0x30];
-        let opcode = if self.random.once_in(4) { self.random.byte() } else { self.random.pick(&KNOWN) };
-        let param1 = self.random.byte() & self.random.pick(&[0x00, 0x07, 0x83, 0xC3, 0xFF]);
-        let param2 = self.random.word() & self.random.pick(&[0x0000, 0x000F, 0x007F, 0xFFFF]);
-        let length = self.random.pick(&[0, 0, 4, 20, 32, 32, 64, 77, 78]);
-        let length = if self.random.once_in(8) { self.random.below(249) } else { length };
+        const KNOWN: [(u8, [usize; 2]); 11] = [
+            (0x02, [0, 0]),
+            (0x08, [0, 32]),
+            (0x12, [4, 32]),
+            (0x15, [0, 4]),
+            (0x16, [20, 32]),
+            (0x17, [0, 0]),
+            (0x1B, [0, 0]),
+            (0x1C, [0, 32]),
+            (0x20, [0, 0]),
+            (0x28, [77, 77]),
+            (0x30, [0, 0]),
+        ];
+        let (known, lengths) = self.random.pick(&KNOWN);
+        let opcode = if self.random.once_in(8) { self.random.byte() } else { known };
+        let length = match self.random.below(8) {
+            0 => self.random.below(249),
+            1 => self.random.pick(&[0, 4, 20, 32, 64, 77, 78]),
+            _ => self.random.pick(&lengths),
+        };
+        let param1 = self.random.byte() & self.random.pick(&[0x00, 0x03, 0x07, 0xC3, 0xFF]);
+        let param2 = self.random.word() & self.random.pick(&[0x0000, 0x0000, 0x0003, 0x000F, 0x007F, 0xFFFF]);
         let data = self.random.bytes(length);
         self.send(opcode, param1, param2, &data);
     }

@@ -5,9 +5,9 @@ use std::process::ExitCode;
 
 use runs::cases::{self, Case};
 use runs::desk::{self, Reply};
-use runs::layout::{IMAGE_LENGTH, STATE_LENGTH};
 use runs::engine::{self, Event};
 use runs::generate::Step;
+use runs::layout::{IMAGE_LENGTH, STATE_LENGTH};
 use runs::program;
 use runs::tally::Tally;
 
@@ -37,10 +37,10 @@ fn through_desk(case: &Case) -> Result<(), String> {
     let mut state = [0; STATE_LENGTH];
     for (number, (step, expected)) in case.steps.iter().enumerate() {
         let line = match (step, step.event()) {
-            (Step::Image(image), _) => {
-                desk::fresh(&image[..], &mut state);
-                "image".to_string()
-            }
+            (Step::Image(image), _) => match desk::fresh(&image[..], &mut state) {
+                0 => "image".to_string(),
+                number => format!("number {number}"),
+            },
             (_, Some((event, random))) => line(event, random, &mut state),
             (_, None) => unreachable!("only an image is no event"),
         };
@@ -60,7 +60,7 @@ fn line(event: Event, random: &[u8], state: &mut [u8]) -> String {
         Event::Sleep => "sleep",
         Event::Block(_) => "block",
     };
-    let answer: String = output[..reply.length].iter().map(|byte| format!("{byte:02X}")).collect();
+    let answer: String = engine::front(&output, reply.length).iter().map(|byte| format!("{byte:02X}")).collect();
     format!("{name} {}", if reply.number == 0 { &answer } else { "none" })
 }
 
@@ -68,8 +68,11 @@ fn line(event: Event, random: &[u8], state: &mut [u8]) -> String {
 
 const DEV_REV: [u8; 7] = [0x07, 0x30, 0x00, 0x00, 0x00, 0x03, 0x5D];
 
-/// Numbers 1, 2 and 40 for each event, and that they change nothing: (bytes of output, random bytes, state byte changed, number).
-const ODD: [(usize, usize, Option<(usize, u8)>, u32); 18] = [
+/// Bytes of output, random bytes, a byte of the state and its value, and the number.
+type Odd = (usize, usize, Option<(usize, u8)>, u32);
+
+/// Numbers 1, 2 and 40, for each event.
+const ODD: [Odd; 18] = [
     (0, 32, None, 1),
     (34, 32, None, 1),
     (34, 31, None, 1),
@@ -125,7 +128,10 @@ fn unchanged(tally: &mut Tally, event: Event, state: &[u8], random: usize, room:
     let reply = desk::event(event, &mut after, &vec![7; random], &mut output);
     let expected = Reply { number, length: 0 };
     tally.case((reply, &after[..], &output[..]) == (expected, state, &vec![9; room][..]), || {
-        format!("{event:02X?}, {} bytes of state, {random} random, {room} of output: {reply:?}, expected number {number}", state.len())
+        format!(
+            "{event:02X?}, {} bytes of state, {random} random, {room} of output: {reply:?}, expected number {number}",
+            state.len()
+        )
     });
 }
 
@@ -143,12 +149,16 @@ fn fresh(tally: &mut Tally) {
     for length in [0, 663, 665, 702] {
         let mut state = [9; STATE_LENGTH];
         let number = desk::fresh(&vec![1; length], &mut state);
-        tally.case((number, state) == (4, [0; STATE_LENGTH]), || format!("fresh from {length} bytes: {number}, expected 4 and zeros"));
+        tally.case((number, state) == (4, [0; STATE_LENGTH]), || {
+            format!("fresh from {length} bytes: {number}, expected 4 and zeros")
+        });
     }
     for (image, length) in [(664, 0), (664, 701), (664, 703), (663, 701)] {
         let mut state = vec![9; length];
         let number = desk::fresh(&vec![1; image], &mut state);
-        tally.case((number, &state) == (40, &vec![9; length]), || format!("fresh from {image} bytes into {length}: {number}, expected 40"));
+        tally.case((number, &state) == (40, &vec![9; length]), || {
+            format!("fresh from {image} bytes into {length}: {number}, expected 40")
+        });
     }
     let mut state = [9; STATE_LENGTH];
     let number = desk::fresh(&[7; IMAGE_LENGTH], &mut state);

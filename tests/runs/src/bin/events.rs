@@ -5,9 +5,9 @@ use std::process::ExitCode;
 
 use runs::arguments;
 use runs::desk;
-use runs::layout::{bytes_of, token_of, IMAGE_LENGTH, NO_STATE, STATE_LENGTH};
 use runs::engine::{Event, Token};
 use runs::generate::{seed_of, Generator, Step};
+use runs::layout::{bytes_of, token_of, IMAGE_LENGTH, NO_STATE, STATE_LENGTH};
 use runs::random::Random;
 use runs::table::Table;
 use runs::tally::Tally;
@@ -144,7 +144,8 @@ struct Lent {
     bytes: Vec<u8>,
 }
 
-const GUARD: usize = 16;
+/// Odd, so that the bytes do not stand where a word would.
+const GUARD: usize = 13;
 
 impl Lent {
     fn new(bytes: &[u8]) -> Lent {

@@ -145,7 +145,8 @@ const LONGEST_INPUT: usize = 65_536;
 
 fn bench_lines(rounds: u64) {
     let proved = program::bench();
-    let independent = std::env::current_exe().map_or_else(|_| PathBuf::from("independent"), |path| path.with_file_name("independent"));
+    let independent =
+        std::env::current_exe().map_or_else(|_| PathBuf::from("independent"), |path| path.with_file_name("independent"));
     let dev_rev = block(0x30, 0, 0, &[]).record();
     let image = Step::Image(Box::new([0; 664])).record();
     let many = [&image[..], b"WK", &dev_rev.repeat((LONGEST_INPUT - 668) / dev_rev.len())].concat();

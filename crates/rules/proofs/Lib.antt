@@ -4,4 +4,3 @@ pub mod Masks
 pub mod Rows
 pub mod Uses
 pub mod Stores
-pub mod Answers

@@ -1,3 +1,4 @@
--- Laws of the token's events and of a fresh state.
+-- Laws of the token's answers, events and fresh state.
+pub mod Answers
 pub mod Ends
 pub mod Filled

@@ -9,7 +9,7 @@ use Rattle.wire.proofs.Laws.{put-fits, whole-length}
 use Rattle.rules.specs.Events.{blockTurn, answering, planFor}
 use Rattle.rules.specs.Plan.{apply}
 use Rattle.rules.specs.declared.Reply.{Reply}
-use Rattle.rules.proofs.Answers.{few-for}
+use Rattle.token.proofs.Answers.{few-for}
 use Rattle.token.proofs.Ends.{end-answered}
 use Rattle.token.proofs.Filled.{take-answer}
 use borrow.Author.Needs.{needs}

@@ -76,9 +76,10 @@ impl Run {
         }
         let mut at = 0;
         for step in &steps {
-            for letter in [at, at + 1] {
+            for small in [[0x20, 0x00], [0x00, 0x20], [0x20, 0x20]] {
                 let mut spoilt = stream.clone();
-                spoilt[letter] ^= 0x20;
+                spoilt[at] ^= small[0];
+                spoilt[at + 1] ^= small[1];
                 self.compare("a mark in small letters", &spoilt, LONGEST_INPUT);
             }
             at += step.record().len();

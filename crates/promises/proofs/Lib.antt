@@ -10,6 +10,7 @@ pub mod Replies
 pub mod Rows
 pub mod Stores
 pub mod Token
+pub mod Records
 pub mod Desk
 pub mod Upkeep
 pub mod Uses

@@ -6,6 +6,7 @@ use mathlib.Core.List.{List, [], _∷_}
 use native.Mathlib.Omega.{arith}
 use lib.ListN.{length, take, drop}
 use lib.Seq.{take-all}
+use lib.Bits.{bitAnd}
 use borrow.Author.Tests.{eq-eqb, ne-eqb, leb-true, eqb-true, not-true}
 use Rattle.wire.specs.Wire.{if_then_else_}
 use Rattle.rules.specs.declared.Device.{Device}
@@ -16,7 +17,7 @@ use Rattle.rules.specs.Address.{zone, size, addressFits, position}
 use Rattle.rules.specs.Read.{readShape}
 use Rattle.rules.specs.Write.{writeShape, hasMac, slotEncrypted, configWriteFree, encrypted, lockedWriteFree, unlockedWriteFree, writeFree, andRow}
 use Rattle.rules.proofs.Tests.{and-left, and-right, or-first, iff-same, if-within}
-use Rattle.rules.proofs.Rows.{andEach, take-each}
+use Rattle.rules.proofs.Rows.{take-zip}
 use Rattle.rows.specs.Row.{row}
 use Rattle.rows.proofs.Row.{take-row}
 
@@ -125,4 +126,4 @@ pub and-taken : (old value : List ℕ) (at n : ℕ) → n ≤ 32 → at + n ≤ 
     → take n (andRow (row old at n) (row value 0 n)) ≡ andRow (take n (drop at old)) value
 and-taken old value at n h k e =
     let f : take n (row value 0 n) ≡ value = take-row value 0 n h (omega arith) ∙ take-all n value (omega arith) in
-    rw (take-each andEach n (row old at n) (row value 0 n), take-row old at n h k, f)
+    rw (take-zip bitAnd n (row old at n) (row value 0 n), take-row old at n h k, f)

@@ -1,12 +1,11 @@
 -- The three flags are asked one after the other.
 use Rattle.rules.specs.Address.{encrypts}
-use Rattle.rules.proofs.Tests.{iff-false}
 use Rattle.zones.proofs.address.key_encrypts.Statement.{statement}
 use Rattle.zones.proofs.address.key_encrypts.Tie as tie
 
 returns : tie.Need-returns
 unfolding encrypts
-returns c = rw (c .before .before .if1 .taken, c .before .if2 .taken, iff-false)
+returns c = rw (c .before .before .if1 .taken, c .before .if2 .taken)
 
 returns-2 : tie.Need-returns-2
 unfolding encrypts

@@ -4,9 +4,10 @@ use mathlib.Core.Path.{_≡_, refl, _∙_}
 use native.Mathlib.Omega.{arith}
 use lib.ListN.{length}
 use lib.Seq.{paste, paste-zero}
+use lib.Bits.{bitAnd}
 use Rattle.rules.specs.Words.{zeros}
 use Rattle.rules.specs.Write.{andRow}
-use Rattle.rules.proofs.Rows.{andEach, each-more, each-all}
+use Rattle.rules.proofs.Rows.{zip-more, zip-all}
 use borrow.Author.Needs.{needs}
 use Rattle.zones.proofs.write.and_row.Statement.{statement}
 use Rattle.zones.proofs.write.and_row.Tie as tie
@@ -41,7 +42,7 @@ loop-again c =
     let b = c .before .before .args .t2 in
     let ha : length a ≡ 32 = search needs in
     let hb : length b ≡ 32 = search needs in
-    (omega arith, rw (c .before .loop .inv .1) (each-more andEach (zeros 32) a b (c .before .loop .i) (omega arith) (omega arith) (omega arith)))
+    (omega arith, rw (c .before .loop .inv .1) (zip-more bitAnd (zeros 32) a b (c .before .loop .i) (omega arith) (omega arith) (omega arith)))
 
 returns : tie.Need-returns Inv-loop μ-loop
 returns c =
@@ -50,7 +51,7 @@ returns c =
     let ha : length a ≡ 32 = search needs in
     let hb : length b ≡ 32 = search needs in
     let e : c .before .loop .i ≡ 32 = omega arith in
-    c .before .loop .inv .1 ∙ rw e (each-all andEach (zeros 32) a b 32 refl ha hb)
+    c .before .loop .inv .1 ∙ rw e (zip-all bitAnd (zeros 32) a b 32 refl ha hb)
 
 pub and-row-spec : {M : Type 1} → statement M
 and-row-spec =

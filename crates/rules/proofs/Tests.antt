@@ -34,10 +34,6 @@ pub iff-true : (b : Bool) → (b iff true) ≡ b
 iff-true true = refl
 iff-true false = refl
 
-pub iff-false : (b : Bool) → (b iff false) ≡ not b
-iff-false true = refl
-iff-false false = refl
-
 pub then-true : (a : Bool) → (a ⇒ true) ≡ true
 then-true true = refl
 then-true false = refl

@@ -3,27 +3,24 @@ use Prim.Native.Nat.{ℕ}
 use mathlib.Core.Path.{_≡_, refl, _∙_}
 use mathlib.Core.Bool.{Bool, true, false, _&&_, false≢true}
 use mathlib.Core.List.{List, [], _∷_, _++_}
+use native.Mathlib.Omega.{arith}
 use borrow.Author.Tests.{leb-true, le-ltb, ltb-false, le-leb}
-use lib.ListN.{length, drop}
+use lib.ListN.{length, drop, length-append}
+use lib.Seq.{take-append-seam}
 use Rattle.wire.specs.Wire.{if_then_else_, frame, whole}
+use Rattle.wire.proofs.Cases.{if-all, if-either}
 use Rattle.rules.specs.declared.Device.{Device}
 use Rattle.rules.specs.declared.Power.{Power}
 use Rattle.rules.specs.declared.Number.the-variants.{ShortOutput, WrongRandom}
 use Rattle.rules.specs.Words.{_is_, _under_, _upTo_}
 use Rattle.rules.specs.State.{isAwake, emptied}
 use Rattle.rules.specs.Plan.{withTempKey, apply}
-use Rattle.rules.specs.Events.{Event, wake, idle, sleep, block, Turn, turn, wakeTurn, idleTurn, sleepTurn, blockTurn, planFor, numberFor, outputAfter}
+use Rattle.rules.specs.Events.{Event, wake, idle, sleep, block, Turn, turn, wakeTurn, idleTurn, sleepTurn, blockTurn, planFor, numberFor, outputAfter, frontOf}
 use Rattle.rules.proofs.Tests.{and-left, and-right}
 use Rattle.token.specs.declared.Token.{Token}
 use Rattle.token.specs.declared.Outcome.{Outcome}
 use Rattle.token.specs.Outcome.{outcome, unchanged}
 use Rattle.demands.specs.Calls.{Call, turnOf, given, outputOf, answerOf, buffersFit, runs, blockOf, after}
-use Rattle.demands.proofs.Cases.{if-all}
-use Rattle.demands.proofs.Answers.{front-answer}
-
--- what holds of both cases holds of either
-pub if-either : {A : Type 0} (P : A → Type 0) (t : Bool) {x y : A} → P x → P y → P (if t then x else y)
-if-either P t p q = if-all P t _ _ (λ _. p) (λ _. q)
 
 -- ---- events
 
@@ -68,6 +65,11 @@ call-fits s c h =
     let out : ℕ = length (c .output) in
     let wide = leb-true 35 out (and-left (35 upTo out) (length (c .random) is 32) h) in
     rw (le-ltb out 35 wide, and-right (35 upTo out) (length (c .random) is 32) h) (refl, refl)
+
+-- what is handed back of an output that begins with an answer is that answer
+pub front-answer : (a rest : List ℕ) → frontOf (length a) (a ++ rest) ≡ a
+front-answer a rest =
+    rw (le-ltb (length (a ++ rest)) (length a) (omega (arith, length-append a rest))) (take-append-seam a rest)
 
 -- ---- blocks that run
 

@@ -9,16 +9,17 @@ use native.Mathlib.Omega.{arith}
 use borrow.Author.Tests.{eqb-true}
 use lib.ListN.{length, drop}
 use Rattle.wire.specs.Wire.{frame, whole}
-use Rattle.wire.proofs.Laws.{length-frame}
+use Rattle.wire.proofs.Laws.{length-frame, frame-same, frame-some}
+use Rattle.wire.proofs.Cases.{if-either}
 use Rattle.rules.specs.declared.Device.{Device}
 use Rattle.rules.specs.declared.Fields.{Fields}
 use Rattle.rules.specs.declared.Number.the-variants.{Answered, ShortOutput, WrongRandom, NoAnswer}
 use Rattle.rules.specs.declared.Status.{Status}
 use Rattle.rules.specs.declared.Status.the-variants.{Done, Woken, Damaged}
 use Rattle.rules.specs.Words.{_⇒_, _is_, bytes, equal}
-use Rattle.rules.specs.State.{numberOf, isAwake, emptied, statusByte, configLocked}
+use Rattle.rules.specs.State.{numberOf, isAwake, emptied, statusByte}
 use Rattle.rules.specs.Plan.{Plan, withTempKey, apply}
-use Rattle.rules.specs.Nonce.{nonce, nonceInput, nonceRandom, random, usedRandom, fourTimes}
+use Rattle.rules.specs.Nonce.{nonce, nonceInput, nonceRandom, random, usedRandom}
 use Rattle.rules.specs.Mac.{mac, macDigest}
 use Rattle.rules.specs.CheckMac.{checkMac, checkMacEffect, checkMacStatus, checkMacDigest, response}
 use Rattle.rules.specs.GenDig.{genDig}
@@ -28,21 +29,13 @@ use Rattle.rules.specs.Write.{write, writeEffect, writeMac, encrypted}
 use Rattle.rules.specs.Upkeep.{lock, updateExtra, devRev}
 use Rattle.rules.specs.Commands.{Command, aRead, aMac, aWrite, aGenDig, aNonce, aLock, aRandom, aDeriveKey, anUpdateExtra, aCheckMac, aDevRev, unknown, ruleOf, commandOf}
 use Rattle.rules.specs.Events.{Event, wake, idle, sleep, block, Turn, turn, wakeTurn, idleTurn, sleepTurn, blockTurn, planFor, opcodeOf, fieldsOf, inputOf, numberFor, frontOf}
+use Rattle.rules.proofs.Settle.{settle-all}
+use Rattle.rules.proofs.Answers.{length-mac, length-used}
 use Rattle.token.specs.declared.Token.{Token}
 use Rattle.token.specs.declared.Outcome.{Outcome}
 use Rattle.demands.specs.Calls.{Call, turnOf, given, outputOf, answerOf}
 use Rattle.demands.specs.Demand1.{Demand1, withEmptied}
-use Rattle.demands.proofs.Cases.{settle-all}
-use Rattle.demands.proofs.Calling.{if-either, turned, answered, call-cases}
-use Rattle.demands.proofs.Answers.{frame-same, frame-some, front-answer, length-digest}
-
-length-mac : (d : Device) (f : Fields) (input : List ℕ) → length (macDigest d f input) ≡ 32
-unfolding macDigest
-length-mac d f input = length-digest _
-
-length-used : (config supplied : List ℕ) → length supplied ≡ 32 → length (usedRandom config supplied) ≡ 32
-unfolding usedRandom fourTimes
-length-used config supplied e = if-either (λ (l : List ℕ). length l ≡ 32) (configLocked config) e refl
+use Rattle.demands.proofs.Calling.{turned, answered, call-cases, front-answer}
 
 -- a status n that refuses: 03 or 0F lie between the others
 module _ (n : ℕ) (above : 2 ≤ n) (below : n ≤ 16) (d : Device) where

@@ -7,6 +7,7 @@ use mathlib.Core.Logic.{_⊎_, inl, inr, ⊎-elim}
 use mathlib.Core.List.{List, [], _∷_}
 use borrow.Author.Tests.{eqb-true}
 use Rattle.wire.specs.Wire.{if_then_else_, frame}
+use Rattle.wire.proofs.Cases.{if-all, if-either}
 use Rattle.rules.specs.declared.Device.{Device}
 use Rattle.rules.specs.declared.Fields.{Fields}
 use Rattle.rules.specs.declared.TempKey.{TempKey}
@@ -24,12 +25,12 @@ use Rattle.rules.specs.Upkeep.{lock, updateExtra, devRev}
 use Rattle.rules.specs.Commands.{Command, aRead, aMac, aWrite, aGenDig, aNonce, aLock, aRandom, aDeriveKey, anUpdateExtra, aCheckMac, aDevRev, unknown, ruleOf, commandOf}
 use Rattle.rules.specs.Events.{sleep, sleepTurn, planFor, opcodeOf, fieldsOf, inputOf}
 use Rattle.rules.proofs.Tests.{and-left, and-right}
+use Rattle.rules.proofs.Settle.{settle-all}
 use Rattle.token.specs.declared.Token.{Token}
 use Rattle.token.specs.declared.Outcome.{Outcome}
-use Rattle.demands.specs.Calls.{Call, given, answerOf, buffersFit, runs, blockOf, commandIn, after}
-use Rattle.demands.specs.Incident.{ruleIn, NonceAccepted, NoNonce, needsTempKey, NoChallenge, Incident}
-use Rattle.demands.proofs.Cases.{if-all, settle-all}
-use Rattle.demands.proofs.Calling.{if-either, turn-device, call-cases, call-fits, block-runs, runs-answer}
+use Rattle.demands.specs.Calls.{Call, given, answerOf, buffersFit, runs, blockOf, commandIn, ruleIn, after}
+use Rattle.demands.specs.Incident.{NonceAccepted, NoNonce, needsTempKey, NoChallenge, Incident}
+use Rattle.demands.proofs.Calling.{turn-device, call-cases, call-fits, block-runs, runs-answer}
 use Rattle.demands.proofs.TempKey.{unmet, others-same}
 
 -- a rule whose conditions are not met answers 0F, or 03 where its shape is wrong

@@ -6,6 +6,7 @@ use mathlib.Core.List.{List, [], _∷_}
 use native.Mathlib.Omega.{arith}
 use borrow.Author.Tests.{eqb-false, ltb-true}
 use Rattle.wire.specs.Wire.{if_then_else_}
+use Rattle.wire.proofs.Cases.{if-all, if-same}
 use Rattle.rules.specs.declared.Device.{Device}
 use Rattle.rules.specs.declared.Fields.{Fields}
 use Rattle.rules.specs.declared.Slot.{Slot}
@@ -18,7 +19,7 @@ use Rattle.rules.specs.GenDig.{genDig, genDigShape, genDigFree, genDigDraws, ge
 use Rattle.rules.specs.DeriveKey.{deriveKey, deriveKeyFree, deriveKeyDraws, deriveKeyMac, deriveKeyStores, newTarget, derived, source, parent, asksMac}
 use Rattle.rules.proofs.Tests.{or-left, or-right, and-left, and-right}
 use Rattle.demands.specs.Demand3.{holds}
-use Rattle.demands.proofs.Cases.{if-all, if-same, missed, missed-rest, holds-append, settle-same}
+use Rattle.demands.proofs.Draws.{missed, missed-rest, holds-append, settle-same}
 use Rattle.demands.proofs.Beside.{Beside, withData, slot-same}
 
 -- GenDig's Param1, in shape and neither 0 nor 1

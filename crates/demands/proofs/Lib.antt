@@ -1,12 +1,11 @@
 -- Proofs of the demands.
--- Shared: a rule's cases, answers, what a call gives, and where commands store.
-pub mod Cases
-pub mod Answers
+-- Shared: what a call gives, and where commands store.
 pub mod Calling
 pub mod Stores
 -- Demand 1.
 pub mod Demand1
--- Demand 3: two data zones equal beside a slot; then commands, events, calls and runs over them.
+-- Demand 3: slots that are not drawn on; two data zones equal beside a slot; then commands, events, calls and runs over them.
+pub mod Draws
 pub mod Beside
 pub mod KeyPlans
 pub mod ReadPlans

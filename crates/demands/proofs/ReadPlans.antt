@@ -6,6 +6,7 @@ use mathlib.Core.List.{List}
 use native.Mathlib.Omega.{arith}
 use borrow.Author.Tests.{leb-true}
 use Rattle.wire.specs.Wire.{if_then_else_}
+use Rattle.wire.proofs.Cases.{if-all, if-same}
 use Rattle.rules.specs.declared.Device.{Device}
 use Rattle.rules.specs.declared.Fields.{Fields}
 use Rattle.rules.specs.declared.Slot.{Slot}
@@ -17,7 +18,7 @@ use Rattle.rules.specs.Address.{zone, size, word, slotOf, addressFits, position
 use Rattle.rules.specs.Read.{read, readShape, readFree, readBytes, dataReadFree}
 use Rattle.rules.specs.Upkeep.{lock, lockFree, zoneOpen, ofValues}
 use Rattle.rules.proofs.Tests.{and-left, and-right}
-use Rattle.demands.proofs.Cases.{if-all, if-same, settle-eq}
+use Rattle.rules.proofs.Settle.{settle-eq}
 use Rattle.demands.proofs.Beside.{Beside, withData, slot-same, part-same}
 
 -- ---- Read

@@ -5,6 +5,7 @@ use mathlib.Core.Bool.{Bool, true, false, _&&_, and-false}
 use mathlib.Core.List.{List}
 use borrow.Author.Tests.{ltb-false, le-leb}
 use lib.ListN.{length, take, drop}
+use Rattle.wire.proofs.Cases.{if-both, if-same}
 use Rattle.rules.specs.declared.Slot.{Slot}
 use Rattle.rules.specs.Words.{_⇒_, _is_, _under_}
 use Rattle.rules.specs.State.{isAwake}
@@ -15,7 +16,6 @@ use Rattle.token.specs.declared.Outcome.{Outcome}
 use Rattle.token.specs.Outcome.{outcome}
 use Rattle.demands.specs.Calls.{Call, turnOf, given, outputOf, buffersFit, runs, blockOf, commandIn, draws}
 use Rattle.demands.specs.Demand3.{Alike, Kept, drawsOn, isMac, SameCall}
-use Rattle.demands.proofs.Cases.{if-both, if-same}
 use Rattle.demands.proofs.Beside.{Beside, withData, Near}
 use Rattle.demands.proofs.SamePlans.{draws-same}
 use Rattle.demands.proofs.SameTurns.{SameTurn, drawnIn, turn-same}

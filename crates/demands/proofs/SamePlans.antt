@@ -13,16 +13,16 @@ use Rattle.rules.specs.State.{bothLocked, isSecret, encryptRead}
 use Rattle.rules.specs.Plan.{Plan, Rule, says, settle}
 use Rattle.rules.specs.Commands.{Command, aRead, aMac, aWrite, aGenDig, aNonce, aLock, aRandom, aDeriveKey, anUpdateExtra, aCheckMac, aDevRev, unknown, planOf}
 use Rattle.rules.specs.Nonce.{nonce, random}
-use Rattle.rules.specs.Mac.{mac, macFree, macDigest}
+use Rattle.rules.specs.Mac.{mac, macFree}
 use Rattle.rules.specs.CheckMac.{checkMac, checkMacFree, checkMacEffect}
 use Rattle.rules.specs.GenDig.{genDig, genDigFree}
 use Rattle.rules.specs.DeriveKey.{deriveKey, deriveKeyFree}
 use Rattle.rules.specs.Read.{read, readFree, dataReadFree}
 use Rattle.rules.specs.Write.{write, writeFree, unlockedWriteFree, lockedWriteFree, slotWriteFree, writeMac, otpWritten, written, writeEffect}
 use Rattle.rules.specs.Upkeep.{updateExtra, devRev}
+use Rattle.rules.proofs.Answers.{length-mac}
+use Rattle.rules.proofs.Settle.{settle-both, settle-draws}
 use Rattle.demands.specs.Demand3.{holds, isMac}
-use Rattle.demands.proofs.Answers.{length-digest}
-use Rattle.demands.proofs.Cases.{settle-both, settle-draws}
 use Rattle.demands.proofs.Beside.{Beside, withData}
 use Rattle.demands.proofs.KeyPlans.{digest-same, mac-same, checkMac-same, genDig-same, deriveKey-same, derive-draws}
 use Rattle.demands.proofs.ReadPlans.{read-same, lock-same}
@@ -99,14 +99,14 @@ module _ (k : Slot) (d : Device) (y : List ℕ) (w : Beside k (d .«data») y)
   plan-same unknown f input supplied h = refl
 
   mac-like : (f : Fields) (input : List ℕ) → Like k (settle (mac d f input)) (settle (mac (withData y d) f input))
-  unfolding mac macFree macDigest holds
+  unfolding mac macFree holds
   mac-like f input =
       settle-both (Like k) (λ s. same-like k (says s) (says s) refl refl) (mac d f input) (mac (withData y d) f input) refl refl
       (λ a b. record {
         stores = refl;
         tempKey = refl;
         answer = λ h. digest-same k d y w f input h;
-        digests = λ h. (length-digest _, length-digest _);
+        digests = λ h. (length-mac d f input, length-mac (withData y d) f input);
       })
 
   pub plan-like : (c : Command) (f : Fields) (input supplied : List ℕ) → (holds k (planOf c d f input supplied .draws) ⇒ isMac c) ≡ true

@@ -7,6 +7,7 @@ use lib.ListN.{length, take, drop}
 use lib.Seq.{drop-at}
 use Rattle.wire.specs.Wire.{if_then_else_, whole, counted, frame}
 use Rattle.wire.proofs.Laws.{length-frame}
+use Rattle.wire.proofs.Cases.{if-both}
 use Rattle.rules.specs.declared.Device.{Device}
 use Rattle.rules.specs.declared.Power.{Power}
 use Rattle.rules.specs.declared.Slot.{Slot}
@@ -20,7 +21,6 @@ use Rattle.rules.specs.Events.{Event, wake, idle, sleep, block, Turn, silent, a
 use Rattle.token.specs.declared.Token.{Token}
 use Rattle.demands.specs.Calls.{blockOf}
 use Rattle.demands.specs.Demand3.{Kept, holds, isMac}
-use Rattle.demands.proofs.Cases.{if-both}
 use Rattle.demands.proofs.Beside.{Beside, withData, Near, apply-near}
 use Rattle.demands.proofs.SamePlans.{Like, plan-like}
 

@@ -1,5 +1,6 @@
 -- The soundings: the checker computes each from the definitions.
 use mathlib.Core.Path.{refl}
+use mathlib.Core.List.{zipWith}
 use lib.Count.{ones, leadingZeros}
 use Rattle.digest.specs.Sha256.{K, H0, pad, words, next, scheduleTo, round, rounds, plus, compress, hash, sha256}
 use Rattle.wire.specs.Wire.{bitIn, bitsIn, checkFrom, checkValue, lowFirst, counted, frame, lowFirstAt, whole}
@@ -12,7 +13,7 @@ use Rattle.rules.specs.Nonce.{nonceShape, nonceInput, nonce}
 use Rattle.rules.specs.Mac.{macShape, firstRow, secondRow, macTempKey, macSlot, macFree, keySpent, mac}
 use Rattle.rules.specs.CheckMac.{checkMacShape, checkMacTempKey, checkMacSlot, checkMacFree, checkMacDigest, checkMacStatus, checkMacEffect, checkMac}
 use Rattle.rules.specs.DeriveKey.{deriveKeyShape, source, deriveKeyTempKey, deriveKeySlots, deriveKeyFree, newTarget, refilled, deriveKeyStores, derived, deriveKey}
-use Rattle.rules.specs.Write.{writeShape, encrypted, lockedWriteFree, writeFree, andRow, otpWritten, written, writeEffect, write}
+use Rattle.rules.specs.Write.{writeShape, encrypted, lockedWriteFree, writeFree, otpWritten, written, writeEffect, write}
 use Rattle.rules.specs.Upkeep.{devRevShape, devRev}
 use Rattle.rules.specs.Commands.{commandOf}
 use Rattle.rules.specs.Events.{planFor, wakeTurn, blockTurn, outputAfter}
@@ -28,7 +29,7 @@ unfolding ones leadingZeros
     macShape firstRow secondRow macTempKey macSlot macFree keySpent mac
     checkMacShape checkMacTempKey checkMacSlot checkMacFree checkMacDigest checkMacStatus checkMacEffect checkMac
     deriveKeyShape source deriveKeyTempKey deriveKeySlots deriveKeyFree newTarget refilled deriveKeyStores derived deriveKey
-    writeShape encrypted lockedWriteFree writeFree andRow otpWritten written writeEffect write
+    writeShape encrypted lockedWriteFree writeFree zipWith otpWritten written writeEffect write
     devRevShape devRev commandOf planFor wakeTurn blockTurn outputAfter outcome freshOf
 soundings = record {
   p1 = refl;

@@ -1,13 +1,14 @@
 -- Where commands store: in OTP, in data, in bytes 52 to 85 of the configuration (uses, update counts, UserExtra, Selector), below its byte 84
 -- while it is unlocked, and the 00 of a Lock of a zone that is open. What holds of all such stores holds of every store of a command.
 use Prim.Native.Nat.{ℕ, zero, suc, _+_, _*_, _%_, _≤_, _<_}
-use mathlib.Core.Path.{_≡_, refl, sym, _∙_}
+use mathlib.Core.Path.{_≡_}
 use mathlib.Core.Bool.{Bool, true, false, not, _&&_, _||_, false≢true}
 use mathlib.Core.List.{List, [], _∷_, _++_}
 use native.Mathlib.Omega.{arith}
 use borrow.Author.Tests.{eqb-true, leb-true, ltb-true, not-true}
 use lib.ListN.{length}
 use Rattle.wire.specs.Wire.{if_then_else_}
+use Rattle.wire.proofs.Cases.{if-all, if-either}
 use Rattle.rules.specs.declared.Device.{Device}
 use Rattle.rules.specs.declared.Fields.{Fields}
 use Rattle.rules.specs.declared.Slot.{Slot}
@@ -26,10 +27,9 @@ use Rattle.rules.specs.DeriveKey.{deriveKey, deriveKeyStores, deriveKeyMac, der
 use Rattle.rules.specs.Read.{read}
 use Rattle.rules.specs.Write.{write, writeShape, writeFree, configWriteFree, hasMac, writeEffect, writeMac, written, encrypted, otpWritten, plain}
 use Rattle.rules.specs.Upkeep.{lock, lockFree, zoneOpen, updateExtra, devRev}
-use Rattle.rules.proofs.Tests.{and-left, and-right}
+use Rattle.rules.proofs.Tests.{and-left, and-right, or-first}
 use Rattle.rules.proofs.Uses.{use-within}
-use Rattle.demands.proofs.Cases.{if-all, settle-all}
-use Rattle.demands.proofs.Calling.{if-either}
+use Rattle.rules.proofs.Settle.{settle-all}
 
 -- a property that holds of all the stores above, under a configuration
 pub record Allows (config : List ℕ) (P : Store → Type 0) : Type 0 where
@@ -61,10 +61,7 @@ use-above config k =
 -- bytes written to the configuration end before its byte 84
 size-fits : (wide : Bool) (n p : ℕ) → (if wide then n is 32 || n is 64 else n is 4) ≡ true → n is 64 ≡ false
     → p + (if wide then 32 else 4) ≤ 84 → p + n ≤ 84
-size-fits true n p s m h = let e = eqb-true n 32 (or-first (n is 32) (n is 64) s m) in omega arith where
-  or-first : (a b : Bool) → (a || b) ≡ true → b ≡ false → a ≡ true
-  or-first true b h k = refl
-  or-first false b h k = sym k ∙ h
+size-fits true n p s m h = let e = eqb-true n 32 (or-first (n is 32) (n is 64) s m) in omega arith
 size-fits false n p s m h = let e = eqb-true n 4 s in omega arith
 
 module _ (d : Device) (f : Fields) (input : List ℕ) (shape : writeShape f input ≡ true) (free : writeFree d f input ≡ true) (z : zone f is 0 ≡ true) where

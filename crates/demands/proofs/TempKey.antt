@@ -5,6 +5,7 @@ use mathlib.Core.Bool.{Bool, true, false, not, _&&_, and-false, false≢true, tr
 use mathlib.Core.List.{List, [], _∷_}
 use borrow.Author.Tests.{eqb-true}
 use Rattle.wire.specs.Wire.{if_then_else_}
+use Rattle.wire.proofs.Cases.{if-all, if-same}
 use Rattle.rules.specs.declared.Device.{Device}
 use Rattle.rules.specs.declared.Fields.{Fields}
 use Rattle.rules.specs.declared.TempKey.{TempKey}
@@ -23,7 +24,6 @@ use Rattle.rules.specs.Upkeep.{lock, lockFree, summary, updateExtra, devRev}
 use Rattle.rules.specs.Commands.{Command, aRead, aMac, aWrite, aGenDig, aNonce, aLock, aRandom, aDeriveKey, anUpdateExtra, aCheckMac, aDevRev, unknown, ruleOf, planOf}
 use Rattle.rules.proofs.Tests.{and-left, and-right, or-left, or-right}
 use Rattle.demands.specs.Incident.{needsTempKey}
-use Rattle.demands.proofs.Cases.{if-all, if-same}
 
 -- a TempKey that is not Valid
 module _ (d : Device) (f : Fields) (empty : d .tempKey .valid ≡ false) where

@@ -2,7 +2,7 @@
 use Prim.Native.Nat.{ℕ, _/_}
 use mathlib.Core.Path.{_≡_, refl, ap, sym, _∙_}
 use mathlib.Core.Bool.{true, false}
-use mathlib.Core.List.{List, [], _∷_, _++_}
+use mathlib.Core.List.{List, [], _∷_, _++_, zipWith}
 use borrow.Author.Tests.{eqb-false}
 use lib.ListN.{set}
 use lib.Seq.{getD-set-other}
@@ -11,10 +11,11 @@ use native.Mathlib.Omega.{arith}
 use Rattle.digest.specs.Sha256.{K, H0, pad, words, next, scheduleTo, round, rounds, plus, compress, hash, sha256}
 use Rattle.wire.specs.Wire.{bitIn, bitsIn, checkFrom, checkValue, lowFirst, counted, frame, lowFirstAt, whole}
 use Rattle.wire.proofs.Xor.{xor-assoc}
+use Rattle.wire.proofs.Cases.{if-all}
 use Rattle.rules.specs.declared.Device.{Device}
 use Rattle.rules.specs.declared.Fields.{Fields}
 use Rattle.rules.specs.declared.Slot.{Slot}
-use Rattle.rules.specs.Words.{_is_, byte, zeros, named, onlyBits, equal, xorRow}
+use Rattle.rules.specs.Words.{_is_, byte, zeros, named, onlyBits, equal}
 use Rattle.rules.specs.State.{slotBytes, slotConfig}
 use Rattle.rules.specs.Plan.{Plan, settle}
 use Rattle.rules.specs.Uses.{limited, useLeft, spend}
@@ -30,13 +31,12 @@ use Rattle.rules.specs.Upkeep.{lock, lockShape, lockFree, zoneOpen, summary}
 use Rattle.rules.specs.Nonce.{nonceShape, nonceInput, nonce}
 use Rattle.rules.specs.Commands.{commandOf}
 use Rattle.rules.specs.Events.{wake, wakeTurn, sleepTurn, blockTurn, planFor, outputAfter}
+use Rattle.rules.proofs.Settle.{settle-all}
 use Rattle.token.specs.declared.Token.{Token}
 use Rattle.token.specs.Outcome.{outcome, freshOf}
-use Rattle.demands.specs.Calls.{Call, blockOf, runs, draws, answerOf, after}
+use Rattle.demands.specs.Calls.{Call, blockOf, runs, draws, answerOf, after, call}
 use Rattle.demands.specs.Demand3.{Alike, Kept, holds, isMac, spared, drawsOn}
-use Rattle.demands.specs.Soundings.{call}
 use Rattle.demands.specs.Witnesses.{Setting, holding, asDemanded, Exposed, readSlot, genDigOfOpen, readSlotEncrypted, lockValues, openSlot, lockConfiguration, one, another, secretSlot, start, macOfSlot, run, Witnesses, genDigOfSlot, readEncrypted, deriveFromSlot, readDerived, copyOfSlot, macOfTempKey, checkOfSlot}
-use Rattle.demands.proofs.Cases.{if-all, settle-all}
 use Rattle.demands.proofs.SameRuns.{demand-3}
 
 -- two rows that differ at a place
@@ -63,7 +63,7 @@ opening : Unit {0}
 unfolding
     holding freshOf outcome outputAfter runs draws holds isMac spared planFor wakeTurn sleepTurn blockTurn commandOf
     whole lowFirst lowFirstAt checkValue checkFrom bitsIn bitIn frame counted
-    onlyBits named equal xorRow slotBytes slotConfig limited useLeft spend
+    onlyBits named equal zipWith slotBytes slotConfig limited useLeft spend
     nonce nonceShape nonceInput
     mac macShape macFree macTempKey macSlot macDigest macMessage firstRow secondRow keyDrawn keySpent
     checkMac checkMacShape checkMacFree checkMacTempKey checkMacSlot checkMacDigest checkMacMessage checkMacDraws checkMacKey checkMacStatus

@@ -12,18 +12,14 @@ use Rattle.rules.specs.declared.TempKey.{TempKey}
 use Rattle.rules.specs.declared.Status.the-variants.{BadShape, Refused}
 use Rattle.rules.specs.Words.{_is_}
 use Rattle.rules.specs.State.{emptied, statusByte, isSecret}
-use Rattle.rules.specs.Plan.{Rule, withTempKey}
+use Rattle.rules.specs.Plan.{withTempKey}
 use Rattle.rules.specs.Mac.{usesTempKey}
 use Rattle.rules.specs.Address.{zone, word, slotOf}
 use Rattle.rules.specs.Write.{encrypted}
-use Rattle.rules.specs.Commands.{Command, aRead, aMac, aWrite, aGenDig, aNonce, aLock, aRandom, aDeriveKey, anUpdateExtra, aCheckMac, aDevRev, unknown, ruleOf, planOf}
-use Rattle.rules.specs.Events.{sleep, fieldsOf, inputOf}
+use Rattle.rules.specs.Commands.{Command, aRead, aMac, aWrite, aGenDig, aNonce, aLock, aRandom, aDeriveKey, anUpdateExtra, aCheckMac, aDevRev, unknown, planOf}
+use Rattle.rules.specs.Events.{sleep, fieldsOf}
 use Rattle.token.specs.declared.Token.{Token}
-use Rattle.demands.specs.Calls.{Call, given, answerOf, buffersFit, runs, blockOf, commandIn, after}
-
--- the rule of the command that a call runs
-abbrev pub ruleIn : Token → Call → Rule
-ruleIn s c = ruleOf (commandIn c) (s .device) (fieldsOf (blockOf (c .event))) (inputOf (blockOf (c .event))) (c .random)
+use Rattle.demands.specs.Calls.{Call, given, answerOf, buffersFit, runs, blockOf, commandIn, ruleIn, after}
 
 -- A Nonce is accepted: it runs, and its shape is right; it has no other condition.
 pub record NonceAccepted (s : Token) (c : Call) : Type 0 where

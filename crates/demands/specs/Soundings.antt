@@ -3,40 +3,20 @@ use Prim.Native.Nat.{ℕ}
 use mathlib.Core.Path.{_≡_}
 use mathlib.Core.Bool.{true}
 use mathlib.Core.List.{List, [], _∷_}
-use lib.ListN.{set}
-use Rattle.wire.specs.Wire.{frame}
 use Rattle.rules.specs.Words.{byte, zeros}
 use Rattle.rules.specs.State.{slot, isSecret, readKey, writeConfigBit, useFlagAt, updateCountAt}
-use Rattle.rules.specs.Events.{Event, wake, block}
+use Rattle.rules.specs.Events.{wake, block}
 use Rattle.token.specs.declared.Token.{Token}
-use Rattle.token.specs.Outcome.{freshOf}
-use Rattle.demands.specs.Calls.{Call, given, answerOf, after}
+use Rattle.demands.specs.Calls.{Call, given, answerOf, after, asleep, call, command}
 
--- ---- calls, all with buffers that are right
-
-abbrev pub call : Event → Call
-call e = record { event = e; random = zeros 32; output = zeros 35 }
-
--- a whole block: count, opcode, Param1, Param2 zero, data, check value
-abbrev pub command : ℕ → ℕ → List ℕ → Call
-command opcode param1 input = call (block (frame (opcode ∷ param1 ∷ 0x00 ∷ 0x00 ∷ input)))
+-- ---- calls and tokens
 
 -- a MAC of slot 0, a Nonce 3
 abbrev pub macOfSlot0 : Call
-macOfSlot0 = command 0x08 0x00 (zeros 32)
+macOfSlot0 = command 0x08 0x00 0 (zeros 32)
 
 abbrev pub nonce3 : Call
-nonce3 = command 0x16 0x03 (zeros 32)
-
--- ---- tokens
-
--- 664 zeros but for some bytes, each by its position in the image and its value
-abbrev pub image : List (ℕ × ℕ) → List ℕ
-image [] = zeros 664
-image (x ∷ xs) = set (image xs) (x .0) (x .1)
-
-abbrev pub asleep : List (ℕ × ℕ) → Token
-asleep xs = freshOf (image xs) .token
+nonce3 = command 0x16 0x03 0 (zeros 32)
 
 abbrev pub awake : List (ℕ × ℕ) → Token
 awake xs = given (asleep xs) (call wake) .token
@@ -67,13 +47,13 @@ pub record Soundings : Type 0 where
   -- an empty slice
   pub p4 : answerOf (awake []) (call (block [])) ≡ 0x04 ∷ 0xFF ∷ 0x01 ∷ 0x42 ∷ []
   -- 03: opcode 47 is unknown
-  pub p5 : answerOf (awake []) (command 0x47 0x00 []) ≡ 0x04 ∷ 0x03 ∷ 0x83 ∷ 0x42 ∷ []
+  pub p5 : answerOf (awake []) (command 0x47 0x00 0 []) ≡ 0x04 ∷ 0x03 ∷ 0x83 ∷ 0x42 ∷ []
   -- 0F: a MAC with both zones unlocked
   pub p6 : answerOf (awake ((86, 0x55) ∷ (87, 0x55) ∷ [])) macOfSlot0 ≡ 0x04 ∷ 0x0F ∷ 0x23 ∷ 0x42 ∷ []
   -- 00: a Nonce 3
   pub p7 : answerOf (awake []) nonce3 ≡ 0x04 ∷ 0x00 ∷ 0x03 ∷ 0x40 ∷ []
   -- 01: a CheckMac that compares unequal
-  pub p8 : answerOf (awake []) (command 0x28 0x00 (zeros 77)) ≡ 0x04 ∷ 0x01 ∷ 0x00 ∷ 0xC3 ∷ []
+  pub p8 : answerOf (awake []) (command 0x28 0x00 0 (zeros 77)) ≡ 0x04 ∷ 0x01 ∷ 0x00 ∷ 0xC3 ∷ []
   -- UseFlag FF to 7F, 01 to 00, 00 refused
   pub p9 :
       (useFlag (given (limitedTo 0xFF) macOfSlot0 .token) ≡ 0x7F)
@@ -82,6 +62,6 @@ pub record Soundings : Type 0 where
   -- SlotConfig bytes 82 E0: secret, ReadKey 2, encrypted write (bit 14)
   pub p10 : (isSecret config82E0 (slot 0) ≡ true) × (readKey config82E0 (slot 0) ≡ slot 2) × (writeConfigBit 14 config82E0 (slot 0) ≡ true)
   -- OTP F0 written AA is A0: OTPmode 55, byte 88 of the image is OTP's first
-  pub p11 : byte 0 (given (awake ((18, 0x55) ∷ (88, 0xF0) ∷ [])) (command 0x12 0x01 (0xAA ∷ zeros 3)) .token .device .otp) ≡ 0xA0
+  pub p11 : byte 0 (given (awake ((18, 0x55) ∷ (88, 0xF0) ∷ [])) (command 0x12 0x01 0 (0xAA ∷ zeros 3)) .token .device .otp) ≡ 0xA0
   -- UpdateCount 255 to 0: a DeriveKey of slot 0, after a Nonce 3
-  pub p12 : updateCount (after (awake ((21, 0x20) ∷ (53, 255) ∷ [])) (nonce3 ∷ command 0x1C 0x04 [] ∷ [])) ≡ 0
+  pub p12 : updateCount (after (awake ((21, 0x20) ∷ (53, 255) ∷ [])) (nonce3 ∷ command 0x1C 0x04 0 [] ∷ [])) ≡ 0

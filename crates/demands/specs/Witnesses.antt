@@ -4,14 +4,12 @@ use mathlib.Core.Path.{_≡_}
 use mathlib.Core.Bool.{true, false}
 use mathlib.Core.List.{List, [], _∷_, _++_}
 use lib.ListN.{replicate}
-use Rattle.wire.specs.Wire.{frame}
 use Rattle.rules.specs.declared.Slot.{Slot}
-use Rattle.rules.specs.Words.{zeros, lowFirst}
+use Rattle.rules.specs.Words.{zeros}
 use Rattle.rules.specs.State.{slot, slotBytes}
-use Rattle.rules.specs.Events.{wake, sleep, block}
+use Rattle.rules.specs.Events.{wake, sleep}
 use Rattle.token.specs.declared.Token.{Token}
-use Rattle.demands.specs.Calls.{Call, answerOf, after}
-use Rattle.demands.specs.Soundings.{call, asleep}
+use Rattle.demands.specs.Calls.{Call, answerOf, after, asleep, call, command}
 use Rattle.demands.specs.Demand3.{Alike, Kept, drawsOn, spared, SameRun}
 
 -- ---- tokens
@@ -43,20 +41,16 @@ another = holding asDemanded 0x22
 
 -- ---- calls
 
--- a whole block: count, opcode, Param1, Param2 (low byte first), data, check value (low byte first)
-abbrev pub sent : ℕ → ℕ → ℕ → List ℕ → Call
-sent opcode param1 param2 input = call (block (frame (opcode ∷ param1 ∷ lowFirst param2 ++ input)))
-
 -- wake, and Nonce 3: TempKey is 32 bytes 44
 abbrev pub start : List Call
-start = call wake ∷ sent 0x16 0x03 0 (replicate 32 0x44) ∷ []
+start = call wake ∷ command 0x16 0x03 0 (replicate 32 0x44) ∷ []
 
 -- MAC of the slot and TempKey; Read of four bytes of slot 0
 abbrev pub macOfSlot : Call
-macOfSlot = sent 0x08 0x05 1 []
+macOfSlot = command 0x08 0x05 1 []
 
 abbrev pub readOpen : Call
-readOpen = sent 0x02 0x02 0 []
+readOpen = command 0x02 0x02 0 []
 
 abbrev pub run : List Call
 run = start ++ macOfSlot ∷ readOpen ∷ call sleep ∷ []
@@ -75,49 +69,49 @@ rightForSlot =
 -- CheckMac of the slot with the response that is right where it begins with 11; CheckMac of slot 0 with the right response, which copies
 -- the neighbouring slot to TempKey
 abbrev pub checkOfSlot : Call
-checkOfSlot = sent 0x28 0x00 1 (zeros 32 ++ rightForSlot ++ zeros 13)
+checkOfSlot = command 0x28 0x00 1 (zeros 32 ++ rightForSlot ++ zeros 13)
 
 abbrev pub copyOfSlot : Call
-copyOfSlot = sent 0x28 0x05 0 (zeros 32 ++ rightForOpen ++ zeros 13)
+copyOfSlot = command 0x28 0x05 0 (zeros 32 ++ rightForOpen ++ zeros 13)
 
 -- MAC of TempKey alone
 abbrev pub macOfTempKey : Call
-macOfTempKey = sent 0x08 0x07 0 []
+macOfTempKey = command 0x08 0x07 0 []
 
 -- GenDig of the slot; an encrypted Read of slot 3
 abbrev pub genDigOfSlot : Call
-genDigOfSlot = sent 0x15 0x02 1 []
+genDigOfSlot = command 0x15 0x02 1 []
 
 abbrev pub readEncrypted : Call
-readEncrypted = sent 0x02 0x82 24 []
+readEncrypted = command 0x02 0x82 24 []
 
 -- DeriveKey of slot 2 from the slot; a Read of slot 2
 abbrev pub deriveFromSlot : Call
-deriveFromSlot = sent 0x1C 0x04 2 []
+deriveFromSlot = command 0x1C 0x04 2 []
 
 abbrev pub readDerived : Call
-readDerived = sent 0x02 0x02 16 []
+readDerived = command 0x02 0x02 16 []
 
 -- Read of four bytes of the slot; GenDig of slot 0; an encrypted Read of the slot
 abbrev pub readSlot : Call
-readSlot = sent 0x02 0x02 8 []
+readSlot = command 0x02 0x02 8 []
 
 abbrev pub genDigOfOpen : Call
-genDigOfOpen = sent 0x15 0x02 0 []
+genDigOfOpen = command 0x15 0x02 0 []
 
 abbrev pub readSlotEncrypted : Call
-readSlotEncrypted = sent 0x02 0x82 8 []
+readSlotEncrypted = command 0x02 0x82 8 []
 
 -- Lock of the values, with the summary that is right where the slot begins with 11
 abbrev pub lockValues : Call
-lockValues = sent 0x17 0x01 0x5688 []
+lockValues = command 0x17 0x01 0x5688 []
 
 -- Write of zeros to SlotConfig of slots 0 and 1; Lock of the configuration
 abbrev pub openSlot : Call
-openSlot = sent 0x12 0x00 5 (zeros 4)
+openSlot = command 0x12 0x00 5 (zeros 4)
 
 abbrev pub lockConfiguration : Call
-lockConfiguration = sent 0x17 0x80 0 []
+lockConfiguration = command 0x17 0x80 0 []
 
 -- ---- what they show
 

@@ -1,11 +1,11 @@
 -- The layout: bytes laid over others, one part after the other, and the length of a state.
 use Prim.Native.Nat.{ℕ, suc, _+_, _≤_, _<_}
-use mathlib.Core.Path.{_≡_, refl, sym, _∙_}
+use mathlib.Core.Path.{_≡_, sym, _∙_}
 use mathlib.Core.Bool.{true}
 use mathlib.Core.List.{List, _++_}
 use native.Mathlib.Omega.{arith}
 use native.Mathlib.Numerals.{add-one}
-use lib.ListN.{length, getD, take, drop, set, length-append, length-take, length-drop, drop-of-length-le}
+use lib.ListN.{length, getD, take, drop, set, length-append, length-take, drop-of-length-le}
 use lib.Seq.{sets, sets-eq, length-sets, take-all, take-at, drop-cons}
 use borrow.Author.Tests.{eqb-true}
 use Rattle.rules.proofs.Tests.{and-left}
@@ -33,15 +33,6 @@ laid-next x p n m e h =
     let k : length (take n x ++ p) ≡ n + m = simp (length-append, length-take) (omega arith) in
     let f : n + length p ≤ length x = omega arith in
     rw (sets-eq p x n f) (take-at (take n x ++ p) (drop (n + length p) x) (n + m) k)
-
-laid-whole : (x p : List ℕ) → length p ≡ length x → sets x 0 p ≡ p
-laid-whole x p e =
-    let h : length (sets x 0 p) ≤ 0 + length p = omega (arith, length-sets x 0 p) in
-    sym (take-all (0 + length p) (sets x 0 p) h) ∙ laid-next x p 0 (length p) refl (omega arith)
-
--- bytes of s from a place on, laid over as many
-pub laid-part : (x s : List ℕ) (at n : ℕ) → length x ≡ n → at + n ≤ length s → sets x 0 (take n (drop at s)) ≡ take n (drop at s)
-laid-part x s at n e h = laid-whole x (take n (drop at s)) (simp (length-take, length-drop) (omega arith))
 
 -- five parts, one after the other
 module _ (s a b d k e : List ℕ) (h : length s ≡ 702) (ha : length a ≡ 88) (hb : length b ≡ 64) (hd : length d ≡ 512) (hk : length k ≡ 32) (he : length e ≡ 6) where

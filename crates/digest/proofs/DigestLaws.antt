@@ -1,5 +1,5 @@
--- From one block to the digest: the value after one more block, and after all.
-use mathlib.Core.Path.{_≡_, ap, _∙_}
+-- From one block to the digest: the value after one more block, and after all; how long a digest is.
+use mathlib.Core.Path.{_≡_, refl, ap, _∙_}
 use mathlib.Core.List.{List}
 use Prim.Native.Nat.{ℕ, suc, _+_, _/_}
 use native.Mathlib.Numerals.{add-one}
@@ -27,3 +27,8 @@ module _ (m : List ℕ) (i : ℕ) {v : Words} {r : List ℕ} where
   hash-done e p q =
       let n : i ≡ length (words (pad m)) / 16 = omega (arith, length-words (pad m), length-pad m) in
       q ∙ ap output (p ∙ ap (λ (k : ℕ). hash k (words (pad m))) n)
+
+-- a digest has 32 bytes
+pub length-sha256 : (m : List ℕ) → length (sha256 m) ≡ 32
+unfolding sha256
+length-sha256 m = refl

@@ -6,10 +6,10 @@ use native.Mathlib.Nat.{add-zero, add-suc, suc-add, mul-suc}
 use native.Mathlib.Numerals.{add-one, add-two}
 use native.Mathlib.Omega.{arith}
 use borrow.Author.Tests.{le-leb, lt-leb}
-use lib.ListN.{length, drop, set}
+use lib.ListN.{length, drop, set, length-append}
 use lib.Seq.{sets, drop-cons}
 use Rattle.rules.specs.Words.{byte}
-use Rattle.records.specs.Records.{hexDigit, hex, putLength, putOutput}
+use Rattle.records.specs.Records.{ascii, hexDigit, hex, putLength, putOutput}
 
 -- a turn: the byte at i is stored, and those after it are left
 pub copy-turn : (o s : List ℕ) (to i : ℕ) → i < length s → sets o to (drop i s) ≡ sets (set o to (byte i s)) (to + 1) (drop (i + 1) s)
@@ -31,13 +31,22 @@ sets-append [] b o at = rw add-zero
 sets-append (x ∷ a) b o at = rw (add-suc at (length a), ← suc-add at (length a)) (sets-append a b (set o at x) (suc at))
 
 -- a line that does not fit, and one that does
-pub not-put : (o : List ℕ) (at : ℕ) (l : List ℕ) → length o < at + length l → (0 ≡ putLength o at l) × (o ≡ putOutput o at l)
+not-put : (o : List ℕ) (at : ℕ) (l : List ℕ) → length o < at + length l → (0 ≡ putLength o at l) × (o ≡ putOutput o at l)
 unfolding putLength putOutput
 not-put o at l h = rw (lt-leb (at + length l) (length o) h) (refl, refl)
 
-pub put : (o : List ℕ) (at : ℕ) (l : List ℕ) → at + length l ≤ length o → (length l ≡ putLength o at l) × (sets o at l ≡ putOutput o at l)
+put : (o : List ℕ) (at : ℕ) (l : List ℕ) → at + length l ≤ length o → (length l ≡ putLength o at l) × (sets o at l ≡ putOutput o at l)
 unfolding putLength putOutput
 put o at l h = rw (le-leb (at + length l) (length o) h) (refl, refl)
+
+-- parts that do not fit
+pub not-put-text : (o : List ℕ) (at : ℕ) (a b : List ℕ) → length o < at + length a + length b
+    → (0 ≡ putLength o at (a ++ b)) × (o ≡ putOutput o at (a ++ b))
+not-put-text o at a b h = not-put o at (a ++ b) (simp length-append (omega arith))
+
+pub not-put-answer : (o : List ℕ) (at : ℕ) (name answer : List ℕ) → length o < at + length name + 2 * length answer + 1
+    → (0 ≡ putLength o at (name ++ (hex answer ++ ascii "\n"))) × (o ≡ putOutput o at (name ++ (hex answer ++ ascii "\n")))
+not-put-answer o at name answer h = not-put-text o at name (hex answer ++ ascii "\n") (simp (length-append, length-hex) (omega arith))
 
 -- what is stored and the position after it, in the words of the promise
 pub placed : (o l : List ℕ) (at : ℕ) {last : List ℕ} {end : ℕ} → at + length l ≤ length o → last ≡ sets o at l → end ≡ at + length l

@@ -1,6 +1,5 @@
 // The fields of a record, as parts of the input.
 ghost use mathlib.Core.Path.{_≡_};
-ghost use Prim.Native.Nat.{_≤_};
 ghost use lib.ListN.{take, drop};
 ghost use Rattle.records.specs.Records.{imageAt, blockAt, randomAt};
 

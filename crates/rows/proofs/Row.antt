@@ -1,26 +1,25 @@
--- A row of 32 bytes: how long it is, what it is where all its bytes are there, and how a loop fills it.
+-- A row of 32 bytes: what it is where all its bytes are there, and how a loop fills it.
 use Prim.Native.Nat.{ℕ, zero, suc, _+_, _-_, min, _≤_, _<_}
-use mathlib.Core.Path.{_≡_, refl, sym, ap, _∙_}
-use mathlib.Core.Bool.{Bool, true, false}
+use mathlib.Core.Path.{_≡_, sym, ap, _∙_}
 use mathlib.Core.List.{List, [], _∷_, _++_, append-nil}
 use native.Mathlib.Omega.{arith}
 use native.Mathlib.Numerals.{add-one}
 use native.Mathlib.Nat.{zero-add}
-use lib.ListN.{length, getD, take, drop, set, length-append, length-take, length-drop, length-replicate}
+use lib.ListN.{length, getD, take, drop, set, length-take, length-drop}
 use lib.Seq.{take-all, take-at, take-take, getD-drop, paste, paste-suc}
 use borrow.Author.Tests.{ltb-true, ltb-false}
-use Rattle.wire.specs.Wire.{if_then_else_}
+use Rattle.wire.proofs.Cases.{if-all}
 use Rattle.rules.specs.Words.{_under_, zeros}
-use Rattle.rules.proofs.Rows.{take-zeros, drop-zeros}
+use Rattle.rules.proofs.Rows.{length-part, take-zeros, drop-zeros}
 use Rattle.rows.specs.Row.{row, fitting}
 
 -- as many as fit: the smaller of what is asked and what is left
 pub fitting-min : (len at n : ℕ) → fitting len at n ≡ min n (len - at)
 unfolding fitting
-fitting-min len at n = go (n under len - at) refl where
-  go : (t : Bool) → (n under len - at) ≡ t → (if t then n else len - at) ≡ min n (len - at)
-  go true e = omega (arith, ltb-true n (len - at) e)
-  go false e = omega (arith, ltb-false n (len - at) e)
+fitting-min len at n =
+    if-all (λ (m : ℕ). m ≡ min n (len - at)) (n under len - at) n (len - at)
+    (λ e. omega (arith, ltb-true n (len - at) e))
+    (λ e. omega (arith, ltb-false n (len - at) e))
 
 -- filled up with zeros to k
 filled : (k m : ℕ) (x : List ℕ) → k ≤ m → take k (x ++ zeros m) ≡ take k x ++ zeros (k - length x)
@@ -34,10 +33,6 @@ pub row-filled : (l : List ℕ) (at n : ℕ) → row l at n ≡ take 32 (take n 
 unfolding row
 row-filled l at n = rw (← length-drop at l, ← length-take n (drop at l)) (filled 32 32 (take n (drop at l)) (omega arith))
 
-pub length-row : (l : List ℕ) (at n : ℕ) → length (row l at n) ≡ 32
-unfolding row
-length-row l at n = simp (length-take, length-append, length-replicate) (omega arith)
-
 -- a row whose bytes are all there
 pub row-there : (l : List ℕ) (at n : ℕ) → n ≤ 32 → at + n ≤ length l → row l at n ≡ take n (drop at l) ++ zeros (32 - n)
 row-there l at n h k =
@@ -46,11 +41,14 @@ row-there l at n h k =
     row-filled l at n ∙ rw (e, f)
 
 pub take-row : (l : List ℕ) (at n : ℕ) → n ≤ 32 → at + n ≤ length l → take n (row l at n) ≡ take n (drop at l)
-take-row l at n h k =
-    rw (row-there l at n h k) (take-at (take n (drop at l)) (zeros (32 - n)) n (simp (length-take, length-drop) (omega arith)))
+take-row l at n h k = rw (row-there l at n h k) (take-at (take n (drop at l)) (zeros (32 - n)) n (length-part l at n k))
 
 pub row-whole : (l : List ℕ) (at : ℕ) → at + 32 ≤ length l → row l at 32 ≡ take 32 (drop at l)
 row-whole l at h = row-there l at 32 (omega arith) h ∙ append-nil (take 32 (drop at l))
+
+-- 32 bytes make a row of themselves
+pub row-all : (l : List ℕ) → length l ≡ 32 → row l 0 32 ≡ l
+row-all l h = row-whole l 0 (omega arith) ∙ take-all 32 l (omega arith)
 
 -- a turn of the loop that fills a row
 pub row-more : (d s : List ℕ) (at i : ℕ) → i < length d → at + i < length s

@@ -4,3 +4,5 @@ pub mod Masks
 pub mod Rows
 pub mod Uses
 pub mod Stores
+pub mod Settle
+pub mod Answers

@@ -1,4 +1,4 @@
--- Rows of bytes: two compared, one made of two byte by byte, a row of zeros.
+-- Rows of bytes: two compared, one made of two byte by byte, a part, a row of zeros.
 use Prim.Native.Nat.{ℕ, zero, suc, _+_, _-_, _≤_, _<_}
 use mathlib.Core.Path.{_≡_, refl, sym, ap}
 use mathlib.Core.Bool.{true, false, _&&_, and-false}
@@ -6,11 +6,9 @@ use mathlib.Core.List.{List, [], _∷_, _++_, append-nil, zipWith}
 use native.Mathlib.Omega.{arith}
 use native.Mathlib.Nat.{not-suc-le-zero, zero-add}
 use native.Mathlib.Numerals.{add-one}
-use lib.ListN.{length, getD, take, drop, set, length-replicate, replicate-append-replicate, drop-of-length-le}
+use lib.ListN.{length, getD, take, drop, set, length-take, length-drop, length-replicate, replicate-append-replicate, drop-of-length-le}
 use lib.Seq.{drop-cons, take-all, take-at, drop-at, paste, paste-suc}
-use lib.Bits.{bitXor, bitAnd}
-use Rattle.rules.specs.Words.{_is_, zeros, equal, xorRow}
-use Rattle.rules.specs.Write.{andRow}
+use Rattle.rules.specs.Words.{_is_, zeros, equal}
 
 -- ---- equal rows
 
@@ -30,74 +28,55 @@ equal-unlike [] (y ∷ ys) h = refl
 equal-unlike (x ∷ xs) [] h = refl
 equal-unlike (x ∷ xs) (y ∷ ys) h = rw (equal-unlike xs ys (λ e. h (ap suc e))) (and-false (x is y))
 
--- ---- a row made of two, byte by byte: XOR, AND
+-- ---- a row made of two, byte by byte: by XOR, by AND
 
-pub record Each : Type 0 where
-  pub byte : ℕ → ℕ → ℕ
-  pub row : List ℕ → List ℕ → List ℕ
-  pub each : (a b : List ℕ) → row a b ≡ zipWith byte a b
+module _ (f : ℕ → ℕ → ℕ) where
+  zip-length : (a b : List ℕ) → length a ≡ length b → length (zipWith f a b) ≡ length a
+  unfolding zipWith
+  zip-length [] ys h = refl
+  zip-length (x ∷ xs) [] h = sym h
+  zip-length (x ∷ xs) (y ∷ ys) h = ap suc (zip-length xs ys (omega (arith, h)))
 
-pub xor-each : (a b : List ℕ) → xorRow a b ≡ zipWith bitXor a b
-unfolding xorRow zipWith
-xor-each [] ys = refl
-xor-each (x ∷ xs) [] = refl
-xor-each (x ∷ xs) (y ∷ ys) = ap (λ (l : List ℕ). bitXor x y ∷ l) (xor-each xs ys)
+  pub zip-within : (a b : List ℕ) → length (zipWith f a b) ≤ length a
+  unfolding zipWith
+  zip-within [] ys = omega arith
+  zip-within (x ∷ xs) [] = omega arith
+  zip-within (x ∷ xs) (y ∷ ys) = omega (arith, zip-within xs ys)
 
-abbrev pub xorEach : Each
-xorEach = record { byte = bitXor; row = xorRow; each = xor-each }
+  zip-at : (a b : List ℕ) (i : ℕ) → i < length a → i < length b → getD (zipWith f a b) i 0 ≡ f (getD a i 0) (getD b i 0)
+  unfolding zipWith
+  zip-at [] ys i ha hb = absurd (not-suc-le-zero ha)
+  zip-at (x ∷ xs) [] i ha hb = absurd (not-suc-le-zero hb)
+  zip-at (x ∷ xs) (y ∷ ys) zero ha hb = refl
+  zip-at (x ∷ xs) (y ∷ ys) (suc i) ha hb = zip-at xs ys i (omega (arith, ha)) (omega (arith, hb))
 
-pub and-each : (a b : List ℕ) → andRow a b ≡ zipWith bitAnd a b
-unfolding andRow zipWith
-and-each [] ys = refl
-and-each (x ∷ xs) [] = refl
-and-each (x ∷ xs) (y ∷ ys) = ap (λ (l : List ℕ). bitAnd x y ∷ l) (and-each xs ys)
-
-abbrev pub andEach : Each
-andEach = record { byte = bitAnd; row = andRow; each = and-each }
-
-length-zip : (f : ℕ → ℕ → ℕ) (a b : List ℕ) → length a ≡ length b → length (zipWith f a b) ≡ length a
-unfolding zipWith
-length-zip f [] ys h = refl
-length-zip f (x ∷ xs) [] h = sym h
-length-zip f (x ∷ xs) (y ∷ ys) h = ap suc (length-zip f xs ys (omega (arith, h)))
-
-getD-zip : (f : ℕ → ℕ → ℕ) (a b : List ℕ) (i : ℕ) → i < length a → i < length b → getD (zipWith f a b) i 0 ≡ f (getD a i 0) (getD b i 0)
-unfolding zipWith
-getD-zip f [] ys i ha hb = absurd (not-suc-le-zero ha)
-getD-zip f (x ∷ xs) [] i ha hb = absurd (not-suc-le-zero hb)
-getD-zip f (x ∷ xs) (y ∷ ys) zero ha hb = refl
-getD-zip f (x ∷ xs) (y ∷ ys) (suc i) ha hb = getD-zip f xs ys i (omega (arith, ha)) (omega (arith, hb))
-
-take-zip : (f : ℕ → ℕ → ℕ) (n : ℕ) (a b : List ℕ) → take n (zipWith f a b) ≡ zipWith f (take n a) (take n b)
-unfolding zipWith
-take-zip f zero a b = refl
-take-zip f (suc n) [] ys = refl
-take-zip f (suc n) (x ∷ xs) [] = refl
-take-zip f (suc n) (x ∷ xs) (y ∷ ys) = ap (λ (l : List ℕ). f x y ∷ l) (take-zip f n xs ys)
-
-module _ (e : Each) where
-  pub length-each : (a b : List ℕ) → length a ≡ length b → length (e .row a b) ≡ length a
-  length-each a b h = rw (e .each a b) (length-zip (e .byte) a b h)
-
-  pub take-each : (n : ℕ) (a b : List ℕ) → take n (e .row a b) ≡ e .row (take n a) (take n b)
-  take-each n a b = rw (e .each a b, e .each (take n a) (take n b)) (take-zip (e .byte) n a b)
+  pub take-zip : (n : ℕ) (a b : List ℕ) → take n (zipWith f a b) ≡ zipWith f (take n a) (take n b)
+  unfolding zipWith
+  take-zip zero a b = refl
+  take-zip (suc n) [] ys = refl
+  take-zip (suc n) (x ∷ xs) [] = refl
+  take-zip (suc n) (x ∷ xs) (y ∷ ys) = ap (λ (l : List ℕ). f x y ∷ l) (take-zip n xs ys)
 
   -- a turn of a loop that makes such a row
-  pub each-more : (z a b : List ℕ) (i : ℕ) → i < length z → length a ≡ length b → i < length a
-      → set (paste z 0 (e .row a b) i) i (e .byte (getD a i 0) (getD b i 0)) ≡ paste z 0 (e .row a b) (i + 1)
-  each-more z a b i hz h k =
-      let x : List ℕ = e .row a b in
-      let l : i < length x = omega (arith, length-each a b h) in
-      let g : getD x i 0 ≡ e .byte (getD a i 0) (getD b i 0) = rw (e .each a b) (getD-zip (e .byte) a b i k (omega arith)) in
-      cc (add-one i, zero-add i, g, paste-suc z 0 x i 0 (omega arith) l)
+  pub zip-more : (z a b : List ℕ) (i : ℕ) → i < length z → length a ≡ length b → i < length a
+      → set (paste z 0 (zipWith f a b) i) i (f (getD a i 0) (getD b i 0)) ≡ paste z 0 (zipWith f a b) (i + 1)
+  zip-more z a b i hz h k =
+      let x : List ℕ = zipWith f a b in
+      let l : i < length x = omega (arith, zip-length a b h) in
+      cc (add-one i, zero-add i, zip-at a b i k (omega arith), paste-suc z 0 x i 0 (omega arith) l)
 
   -- the end of that loop
-  pub each-all : (z a b : List ℕ) (n : ℕ) → length z ≡ n → length a ≡ n → length b ≡ n → paste z 0 (e .row a b) n ≡ e .row a b
-  each-all z a b n hz ha hb =
+  pub zip-all : (z a b : List ℕ) (n : ℕ) → length z ≡ n → length a ≡ n → length b ≡ n → paste z 0 (zipWith f a b) n ≡ zipWith f a b
+  zip-all z a b n hz ha hb =
       let l : length z ≤ 0 + n = omega arith in
-      let x : List ℕ = e .row a b in
-      let k : length x ≤ n = omega (arith, length-each a b (omega arith)) in
+      let x : List ℕ = zipWith f a b in
+      let k : length x ≤ n = omega (arith, zip-length a b (omega arith)) in
       rw (drop-of-length-le z l, take-all n x k) (append-nil x)
+
+-- ---- a part of a row
+
+pub length-part : (l : List ℕ) (at n : ℕ) → at + n ≤ length l → length (take n (drop at l)) ≡ n
+length-part l at n h = simp (length-take, length-drop) (omega arith)
 
 -- ---- zeros
 

@@ -1,13 +1,13 @@
--- Bytes stored one after the other, upwards in a zone: one byte at a time, and all at once; stores behind others.
+-- Bytes stored one after the other, upwards in a zone: one byte at a time, and all at once; a zone filled whole; stores behind others.
 use Prim.Native.Nat.{ℕ, _+_, _-_, min, _≤_, _<_}
 use mathlib.Core.Path.{_≡_, refl, sym, ap, _∙_}
 use mathlib.Core.Logic.{⊎-elim}
-use mathlib.Core.List.{List, [], _∷_, _++_}
+use mathlib.Core.List.{List, [], _∷_, _++_, append-nil}
 use native.Mathlib.Omega.{arith}
 use native.Mathlib.Nat.{eq-or-lt-of-le}
 use native.Mathlib.Numerals.{add-one}
 use lib.ListN.{length, getD, drop, set, drop-of-length-le}
-use lib.Seq.{drop-cons, set-out, sets}
+use lib.Seq.{drop-cons, set-out, sets, sets-eq}
 use Rattle.rules.specs.declared.Device.{Device}
 use Rattle.rules.specs.Plan.{Store, inConfig, inOtp, inData, store, storeAll, upwards}
 
@@ -90,3 +90,15 @@ module _ (z : Zone) where
       let l : List ℕ = set (z .get d) p b in
       let e : Device = z .put l d in
       cc (z .stores d p b, stored-sets bs e (p + 1), z .got d l, add-one p, z .over d l (sets l (p + 1) bs))
+
+-- ---- filled whole
+
+pub sets-whole : (old l : List ℕ) → length l ≡ length old → sets old 0 l ≡ l
+sets-whole old l h =
+    let fit : 0 + length l ≤ length old = omega arith in
+    let gone : length old ≤ 0 + length l = omega arith in
+    sets-eq l old 0 fit ∙ rw (drop-of-length-le old gone) (append-nil l)
+
+-- a zone filled whole by stores from its first byte on holds just those bytes
+pub stored-whole : (z : Zone) (d : Device) (l : List ℕ) → length l ≡ length (z .get d) → storeAll d (upwards (z .at) 0 l) ≡ z .put l d
+stored-whole z d l h = stored-sets z l d 0 ∙ ap (λ (x : List ℕ). z .put x d) (sets-whole (z .get d) l h)

@@ -1,11 +1,12 @@
 -- Tests: both halves of an `&&` or an `||`, an `iff` or a `⇒` with one half known, a bound by cases, a bit that is not there, and the tests that a branch gives.
 use Prim.Native.Nat.{ℕ, _^_, _≤_, _<_}
 use mathlib.Core.Path.{_≡_, refl, sym, _∙_}
-use mathlib.Core.Bool.{Bool, true, false, not, _&&_, _||_, Bool·beq}
+use mathlib.Core.Bool.{Bool, true, false, not, _&&_, _||_}
 use native.Mathlib.Omega.{arith}
 use native.Mathlib.Nat.{div-eq-of-lt, lt-of-lt-of-le, pow-le-pow-right}
 use borrow.Author.Tests.{eq-eqb, ne-eqb, lt-ltb, le-ltb, le-leb, lt-leb}
 use Rattle.wire.specs.Wire.{if_then_else_}
+use Rattle.wire.proofs.Cases.{if-either}
 use Rattle.rules.specs.Words.{_⇒_, _iff_, bit}
 
 pub and-left : (a b : Bool) → (a && b) ≡ true → a ≡ true
@@ -47,8 +48,7 @@ then-false false = refl
 
 -- a bound on both cases
 pub if-within : (t : Bool) {a b n : ℕ} → a ≤ n → b ≤ n → (if t then a else b) ≤ n
-if-within true ha hb = ha
-if-within false ha hb = hb
+if-within t {n = n} ha hb = if-either (λ (m : ℕ). m ≤ n) t ha hb
 
 -- a number below 2 ^ k has no bit from k on
 pub bit-none : (n x k : ℕ) → x < 2 ^ k → k ≤ n → bit n x ≡ false

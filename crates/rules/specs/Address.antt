@@ -1,8 +1,7 @@
 -- Where Read and Write go: a zone, a word of it, and 4 or 32 bytes.
 use Prim.Native.Nat.{ℕ, _*_, _/_, _%_}
-use mathlib.Core.Bool.{Bool, true, false, _&&_}
+use mathlib.Core.Bool.{Bool, not, _&&_}
 use mathlib.Core.List.{List}
-use Rattle.rules.specs.declared.Device.{Device}
 use Rattle.rules.specs.declared.Fields.{Fields}
 use Rattle.rules.specs.declared.Slot.{Slot}
 use Rattle.rules.specs.declared.TempKey.{TempKey}
@@ -40,7 +39,7 @@ position f = if bit 7 (f .param1) then 32 * (word f .0 / 8) else 4 * word f .0
 
 -- What every encrypted Read and Write needs of TempKey: Valid, GenData 1, CheckFlag 0.
 unfoldable pub encrypts : TempKey → Bool
-encrypts t = t .valid && t .genData && (t .checkFlag iff false)
+encrypts t = t .valid && t .genData && not (t .checkFlag)
 
 -- SlotID = a key's number, SourceFlag = CheckMacConfig bit slot/2.
 unfoldable pub encryptsFor : List ℕ → TempKey → Slot → Slot → Bool

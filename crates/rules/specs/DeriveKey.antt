@@ -1,6 +1,6 @@
 -- DeriveKey.
 use Prim.Native.Nat.{ℕ, _+_, _*_, _%_}
-use mathlib.Core.Bool.{Bool, true, false, not, _&&_, _||_}
+use mathlib.Core.Bool.{Bool, not, _&&_, _||_}
 use mathlib.Core.List.{List, [], _∷_, _++_}
 use lib.ListN.{length}
 use Rattle.digest.specs.Sha256.{sha256}
@@ -10,7 +10,7 @@ use Rattle.rules.specs.declared.Slot.{Slot}
 use Rattle.rules.specs.declared.TempKey.{TempKey}
 use Rattle.rules.specs.declared.Status.the-variants.{Done}
 use Rattle.wire.specs.Wire.{if_then_else_}
-use Rattle.rules.specs.Words.{_⇒_, _iff_, _is_, _under_, bit, byte, equal, onlyBits}
+use Rattle.rules.specs.Words.{_⇒_, _iff_, _is_, _under_, byte, equal, onlyBits}
 use Rattle.rules.specs.State.{index, key, slotBytes, bothLocked, writeConfigBit, writeKey, checkOnly, useFlagAt, updateCountAt, emptied, statusByte}
 use Rattle.rules.specs.Plan.{Store, inConfig, inData, upwards, Plan, refusedAfter, Rule}
 use Rattle.rules.specs.Uses.{useLeft, spend}

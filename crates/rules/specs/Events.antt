@@ -1,12 +1,10 @@
 -- Calls and their numbers: wake, idle, sleep (also watchdog expiry), block.
 use Prim.Native.Nat.{ℕ, _+_, _-_, _*_}
-use mathlib.Core.Bool.{Bool, true, false}
 use mathlib.Core.List.{List, [], _∷_, _++_}
 use lib.ListN.{length, take, drop}
 use Rattle.wire.specs.Wire.{frame, whole, if_then_else_}
 use Rattle.rules.specs.declared.Device.{Device}
 use Rattle.rules.specs.declared.Fields.{Fields}
-use Rattle.rules.specs.declared.Slot.{Slot}
 use Rattle.rules.specs.declared.Power.{Power}
 use Rattle.rules.specs.declared.Power.the-variants.{Asleep, Idle, Awake}
 use Rattle.rules.specs.declared.Status.the-variants.{Woken, Damaged}
@@ -15,7 +13,7 @@ use Rattle.rules.specs.declared.Number.the-variants.{Answered, NoAnswer}
 use Rattle.rules.specs.Words.{_is_, _under_, byte}
 use Rattle.rules.specs.State.{isAwake, emptied, statusByte}
 use Rattle.rules.specs.Plan.{Plan, withTempKey, apply}
-use Rattle.rules.specs.Commands.{Command, commandOf, planOf}
+use Rattle.rules.specs.Commands.{commandOf, planOf}
 
 -- Block: count, opcode, Param1, Param2 (low byte first), data, check value (low byte first).
 abbrev pub opcodeOf : List ℕ → ℕ

@@ -1,6 +1,6 @@
 -- GenDig.
 use Prim.Native.Nat.{ℕ, _*_}
-use mathlib.Core.Bool.{Bool, true, false, _&&_, _||_}
+use mathlib.Core.Bool.{Bool, true, _&&_, _||_}
 use mathlib.Core.List.{List, [], _∷_}
 use lib.ListN.{length, take, drop}
 use Rattle.digest.specs.Sha256.{sha256}
@@ -12,7 +12,7 @@ use Rattle.rules.specs.declared.Status.the-variants.{Done}
 use Rattle.wire.specs.Wire.{if_then_else_}
 use Rattle.rules.specs.Words.{_⇒_, _is_, _under_, _upTo_}
 use Rattle.rules.specs.State.{slot, key, slotBytes, configLocked, checkOnly, statusByte}
-use Rattle.rules.specs.Plan.{Store, Plan, Rule}
+use Rattle.rules.specs.Plan.{Store, Rule}
 use Rattle.rules.specs.Uses.{useLeft, spend}
 use Rattle.rules.specs.Messages.{header, layout96}
 

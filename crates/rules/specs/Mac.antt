@@ -11,7 +11,7 @@ use Rattle.rules.specs.declared.TempKey.{TempKey}
 use Rattle.wire.specs.Wire.{if_then_else_}
 use Rattle.rules.specs.Words.{_⇒_, _iff_, _is_, bit, onlyBits}
 use Rattle.rules.specs.State.{key, slotBytes, bothLocked, checkOnly, emptied}
-use Rattle.rules.specs.Plan.{Store, Plan, Rule}
+use Rattle.rules.specs.Plan.{Store, Rule}
 use Rattle.rules.specs.Uses.{useLeft, spend}
 use Rattle.rules.specs.Messages.{macMessage}
 

@@ -1,6 +1,6 @@
 -- Read.
 use Prim.Native.Nat.{ℕ}
-use mathlib.Core.Bool.{Bool, true, false, not, _&&_, _||_}
+use mathlib.Core.Bool.{Bool, true, not, _&&_, _||_}
 use mathlib.Core.List.{List, [], _∷_}
 use lib.ListN.{length, take, drop}
 use Rattle.rules.specs.declared.Device.{Device}
@@ -8,7 +8,7 @@ use Rattle.rules.specs.declared.Fields.{Fields}
 use Rattle.wire.specs.Wire.{if_then_else_}
 use Rattle.rules.specs.Words.{_is_, _under_, bit, onlyBits, xorRow}
 use Rattle.rules.specs.State.{slotBytes, bothLocked, otpMode, isSecret, encryptRead, readKey}
-use Rattle.rules.specs.Plan.{Plan, Rule, gives}
+use Rattle.rules.specs.Plan.{Rule, gives}
 use Rattle.rules.specs.Address.{zone, size, word, slotOf, addressFits, position, encrypts, encryptsFor}
 
 -- Bit 7: 32 bytes, else 4; bits 1-0 zone 0-2.

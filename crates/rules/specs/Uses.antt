@@ -1,7 +1,7 @@
 -- Uses: with LimitedUse, each use clears the highest one bit of UseFlag (slots 0-7), or of the first nonzero LastKeyUse byte
 -- (slot 15); uses left are the ones. Slots 8-14 are unlimited (house).
 use Prim.Native.Nat.{ℕ, zero, suc, _+_, _-_, _^_}
-use mathlib.Core.Bool.{Bool, true, false, _&&_, _||_}
+use mathlib.Core.Bool.{Bool, _&&_, _||_}
 use mathlib.Core.List.{List, [], _∷_}
 use lib.Count.{ones, leadingZeros}
 use Rattle.rules.specs.declared.Slot.{Slot}

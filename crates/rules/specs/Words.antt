@@ -1,7 +1,7 @@
 -- The small words of the rules: cases, tests of numbers, bits of a field, bytes of a zone.
 use Prim.Native.Nat.{ℕ, _+_, _-_, _*_, _/_, _%_, _^_}
 use mathlib.Core.Bool.{Bool, true, false, _&&_, Bool·beq}
-use mathlib.Core.List.{List, [], _∷_}
+use mathlib.Core.List.{List, [], _∷_, zipWith}
 use lib.ListN.{getD, take, drop, replicate}
 use lib.Bits.{bitXor}
 use lib.Dec.{ltb, leb, eqb}
@@ -61,7 +61,5 @@ equal [] (y ∷ ys) = false
 equal (x ∷ xs) [] = false
 equal (x ∷ xs) (y ∷ ys) = x is y && equal xs ys
 
-unfoldable pub xorRow : List ℕ → List ℕ → List ℕ
-xorRow (x ∷ xs) (y ∷ ys) = bitXor x y ∷ xorRow xs ys
-xorRow [] ys = []
-xorRow (x ∷ xs) [] = []
+abbrev pub xorRow : List ℕ → List ℕ → List ℕ
+xorRow a b = zipWith bitXor a b

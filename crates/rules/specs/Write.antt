@@ -1,7 +1,7 @@
 -- Write.
 use Prim.Native.Nat.{ℕ, _+_}
-use mathlib.Core.Bool.{Bool, true, false, not, _&&_, _||_}
-use mathlib.Core.List.{List, [], _∷_}
+use mathlib.Core.Bool.{Bool, false, not, _&&_, _||_}
+use mathlib.Core.List.{List, [], _∷_, zipWith}
 use lib.ListN.{length, take, drop}
 use lib.Bits.{bitAnd}
 use Rattle.digest.specs.Sha256.{sha256}
@@ -80,10 +80,8 @@ unfoldable pub writeMac : Device → Fields → List ℕ → List ℕ
 writeMac d f input = sha256 (layout96 (d .tempKey .bytes) (header 0x12 f) (d .config) (plain d input))
 
 -- old AND new
-unfoldable pub andRow : List ℕ → List ℕ → List ℕ
-andRow (x ∷ xs) (y ∷ ys) = bitAnd x y ∷ andRow xs ys
-andRow [] ys = []
-andRow (x ∷ xs) [] = []
+abbrev pub andRow : List ℕ → List ℕ → List ℕ
+andRow a b = zipWith bitAnd a b
 
 -- OTP with values locked: result old AND new
 unfoldable pub otpWritten : Device → Fields → List ℕ → List ℕ

@@ -1,4 +1,3 @@
--- Laws of the token's answers, events and fresh state.
-pub mod Answers
+-- Laws of the token's events and fresh state.
 pub mod Ends
 pub mod Filled

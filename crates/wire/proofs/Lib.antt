@@ -1,4 +1,5 @@
--- The laws that belong to no one function: Laws and Vectors are for the crates above, the others for this crate's proofs.
+-- The laws that belong to no one function: Cases, Xor and Laws are also for the crates above.
+pub mod Cases
 pub mod Xor
 pub mod Reversed
 pub mod Register

@@ -1,7 +1,6 @@
 -- The register held in reverse order: what bits do to it one by one, and that eight at once do the same.
 use Prim.Native.Nat.{ℕ, zero, suc, _*_, _/_, _%_, _^_, _<_}
 use mathlib.Core.Path.{_≡_, refl, sym, ap, _∙_}
-use mathlib.Core.Bool.{Bool, true, false}
 use native.Mathlib.Omega.{arith}
 use lib.Arith.{lt-one}
 use lib.Bits.{bitXor, xor-shr, xor-mod, xor-lt, xor-zero-r}
@@ -9,6 +8,7 @@ use lib.Count.{ones, onesIn}
 use lib.Dec.{eqb}
 use Rattle.wire.specs.Wire.{if_then_else_, bitIn, bitsIn}
 use Rattle.wire.specs.Reversed.{reversed}
+use Rattle.wire.proofs.Cases.{if-either}
 use Rattle.wire.proofs.Xor.{on-bit, sorted, Additive, times-power, low-sixteen, bit-times, odd-additive, agree}
 use Rattle.wire.proofs.Reversed.{reversed-lt, reversed-additive, twice, up-down, top-low}
 
@@ -16,13 +16,11 @@ use Rattle.wire.proofs.Reversed.{reversed-lt, reversed-additive, twice,
 
 bit-in-lt : (c b : ℕ) → bitIn c b < 2 ^ 16
 unfolding bitIn
-bit-in-lt c b = either (eqb (c / 0x8000) b) (c * 2 % 2 ^ 16) (omega arith)
-  where
-    either : (t : Bool) (u : ℕ) → u < 2 ^ 16 → (if t then u else bitXor u 0x8005) < 2 ^ 16
-    either true u h = h
-    either false u h = xor-lt 16 u 0x8005 h (omega arith)
+bit-in-lt c b =
+    let up : ℕ = c * 2 % 2 ^ 16 in
+    if-either (λ (r : ℕ). r < 2 ^ 16) (eqb (c / 0x8000) b) (omega arith) (xor-lt 16 up 0x8005 (omega arith) (omega arith))
 
-pub bits-in-lt : (n c x : ℕ) → c < 2 ^ 16 → bitsIn n c x < 2 ^ 16
+bits-in-lt : (n c x : ℕ) → c < 2 ^ 16 → bitsIn n c x < 2 ^ 16
 unfolding bitsIn
 bits-in-lt zero c x h = h
 bits-in-lt (suc n) c x h = bits-in-lt n (bitIn c (x % 2)) (x / 2) (bit-in-lt c (x % 2))

@@ -1,11 +1,12 @@
 -- `desk::load` meets its contract: each zone is filled whole from its part of the bytes.
-use mathlib.Core.Path.{_≡_, refl, _∙_}
+use mathlib.Core.Path.{_≡_, _∙_}
 use native.Mathlib.Omega.{arith}
 use denote.Ref.{now}
 use lib.ListN.{length}
-use Rattle.rules.specs.Words.{zeros}
+use Rattle.rules.specs.Words.{bytes, zeros}
 use Rattle.desk.specs.Desk.{loaded}
-use Rattle.desk.proofs.Laid.{laid-part}
+use Rattle.rules.proofs.Rows.{length-part}
+use Rattle.rules.proofs.Stores.{sets-whole}
 use borrow.Author.Needs.{needs}
 use Rattle.desk.proofs.load.Statement.{statement}
 use Rattle.desk.proofs.load.Tie as tie
@@ -73,9 +74,9 @@ returns c =
     let start = first .before .before .before .before in
     let s = now (start .args .s) in
     let h : length s ≡ 702 = start .pre in
-    let config = first .lay .ensures ∙ laid-part (zeros 88) s 0 88 refl (omega arith) in
-    let otp = second .lay2 .ensures ∙ laid-part (zeros 64) s 88 64 refl (omega arith) in
-    let «data» = third .lay3 .ensures ∙ laid-part (zeros 512) s 152 512 refl (omega arith) in
+    let config = first .lay .ensures ∙ sets-whole (zeros 88) (bytes 0 87 s) (length-part s 0 88 (omega arith)) in
+    let otp = second .lay2 .ensures ∙ sets-whole (zeros 64) (bytes 88 151 s) (length-part s 88 64 (omega arith)) in
+    let «data» = third .lay3 .ensures ∙ sets-whole (zeros 512) (bytes 152 663 s) (length-part s 152 512 (omega arith)) in
     rw (config, otp, «data», c .before .before .temp-key-in .ensures, c .power-of .ensures)
 
 pub load-spec : {M : Type 1} → statement M

@@ -17,21 +17,30 @@ is-marked-requires-2 c κs = search needs
 
 returns-2 : tie.Need-returns-2
 unfolding announced
-returns-2 c = rw (sym (c .before .before .before .is-marked .ensures) ∙ c .before .before .if1 .left, sym (c .before .is-marked2 .ensures) ∙ c .if2 .taken)
+returns-2 c =
+    let ee = c .before .before in
+    rw (sym (ee .before .is-marked .ensures) ∙ ee .if1 .left, sym (c .before .is-marked2 .ensures) ∙ c .if2 .taken)
 
 is-marked-requires-3 : tie.Need-is-marked-requires-3
 is-marked-requires-3 c κs = search needs
 
 returns-3 : tie.Need-returns-3
 unfolding announced
-returns-3 c = rw (sym (c .before .before .before .before .before .is-marked .ensures) ∙ c .before .before .before .before .if1 .left, sym (c .before .before .before .is-marked2 .ensures) ∙ c .before .before .if2 .left, sym (c .before .is-marked3 .ensures) ∙ c .if3 .taken)
+returns-3 c =
+    let wk = c .before .before in
+    let ee = wk .before .before in
+    rw (sym (ee .before .is-marked .ensures) ∙ ee .if1 .left, sym (wk .before .is-marked2 .ensures) ∙ wk .if2 .left, sym (c .before .is-marked3 .ensures) ∙ c .if3 .taken)
 
 is-marked-requires-4 : tie.Need-is-marked-requires-4
 is-marked-requires-4 c κs = search needs
 
 returns-4 : tie.Need-returns-4
 unfolding announced
-returns-4 c = rw (sym (c .before .before .before .before .before .before .before .is-marked .ensures) ∙ c .before .before .before .before .before .before .if1 .left, sym (c .before .before .before .before .before .is-marked2 .ensures) ∙ c .before .before .before .before .if2 .left, sym (c .before .before .before .is-marked3 .ensures) ∙ c .before .before .if3 .left, sym (c .before .is-marked4 .ensures) ∙ c .if4 .taken)
+returns-4 c =
+    let id = c .before .before in
+    let wk = id .before .before in
+    let ee = wk .before .before in
+    rw (sym (ee .before .is-marked .ensures) ∙ ee .if1 .left, sym (wk .before .is-marked2 .ensures) ∙ wk .if2 .left, sym (id .before .is-marked3 .ensures) ∙ id .if3 .left, sym (c .before .is-marked4 .ensures) ∙ c .if4 .taken)
 
 is-marked-requires-5 : tie.Need-is-marked-requires-5
 is-marked-requires-5 c κs = search needs
@@ -41,11 +50,22 @@ length-byte-requires c κs = search needs
 
 returns-5 : tie.Need-returns-5
 unfolding announced
-returns-5 c = rw (sym (c .before .before .before .before .before .before .before .before .before .before .is-marked .ensures) ∙ c .before .before .before .before .before .before .before .before .before .if1 .left, sym (c .before .before .before .before .before .before .before .before .is-marked2 .ensures) ∙ c .before .before .before .before .before .before .before .if2 .left, sym (c .before .before .before .before .before .before .is-marked3 .ensures) ∙ c .before .before .before .before .before .if3 .left, sym (c .before .before .before .before .is-marked4 .ensures) ∙ c .before .before .before .if4 .left, sym (c .before .before .is-marked5 .ensures) ∙ c .before .if5 .taken, c .length-byte .ensures)
+returns-5 c =
+    let bk = c .before in
+    let sl = bk .before .before in
+    let id = sl .before .before in
+    let wk = id .before .before in
+    let ee = wk .before .before in
+    rw (sym (ee .before .is-marked .ensures) ∙ ee .if1 .left, sym (wk .before .is-marked2 .ensures) ∙ wk .if2 .left, sym (id .before .is-marked3 .ensures) ∙ id .if3 .left, sym (sl .before .is-marked4 .ensures) ∙ sl .if4 .left, sym (bk .before .is-marked5 .ensures) ∙ bk .if5 .taken, c .length-byte .ensures)
 
 returns-6 : tie.Need-returns-6
 unfolding announced
-returns-6 c = rw (sym (c .before .before .before .before .before .before .before .before .before .is-marked .ensures) ∙ c .before .before .before .before .before .before .before .before .if1 .left, sym (c .before .before .before .before .before .before .before .is-marked2 .ensures) ∙ c .before .before .before .before .before .before .if2 .left, sym (c .before .before .before .before .before .is-marked3 .ensures) ∙ c .before .before .before .before .if3 .left, sym (c .before .before .before .is-marked4 .ensures) ∙ c .before .before .if4 .left, sym (c .before .is-marked5 .ensures) ∙ c .if5 .left)
+returns-6 c =
+    let sl = c .before .before in
+    let id = sl .before .before in
+    let wk = id .before .before in
+    let ee = wk .before .before in
+    rw (sym (ee .before .is-marked .ensures) ∙ ee .if1 .left, sym (wk .before .is-marked2 .ensures) ∙ wk .if2 .left, sym (id .before .is-marked3 .ensures) ∙ id .if3 .left, sym (sl .before .is-marked4 .ensures) ∙ sl .if4 .left, sym (c .before .is-marked5 .ensures) ∙ c .if5 .left)
 
 pub announced-by-spec : {M : Type 1} → statement M
 announced-by-spec =

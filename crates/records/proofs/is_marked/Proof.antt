@@ -7,7 +7,9 @@ use Rattle.records.proofs.is_marked.Statement.{statement}
 use Rattle.records.proofs.is_marked.Tie as tie
 
 returns : tie.Need-returns
-returns c = sym (mark-none (now (c .before .args .rest)) (c .before .args .a) (c .before .args .b) (search needs))
+returns c =
+    let x = c .before .args in
+    sym (mark-none (now (x .rest)) (x .a) (x .b) (search needs))
 
 shared-slice-read-result : tie.Need-shared-slice-read-result
 shared-slice-read-result c = search needs
@@ -16,7 +18,9 @@ shared-slice-read-result-2 : tie.Need-shared-slice-read-result-2
 shared-slice-read-result-2 c = search needs
 
 returns-2 : tie.Need-returns-2
-returns-2 c = sym (mark-two (now (c .before .before .before .args .rest)) (c .before .before .before .args .a) (c .before .before .before .args .b) (search needs))
+returns-2 c =
+    let x = c .before .before .before .args in
+    sym (mark-two (now (x .rest)) (x .a) (x .b) (search needs))
 
 pub is-marked-spec : {M : Type 1} → statement M
 is-marked-spec =

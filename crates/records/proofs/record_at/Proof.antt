@@ -1,5 +1,4 @@
 -- Offset 0 is tested first.
-use mathlib.Core.Path.{_≡_}
 use borrow.Author.Tests.{eq-eqb, ne-eqb}
 use Rattle.records.specs.Records.{recordAt}
 use borrow.Author.Needs.{needs}

@@ -1,6 +1,5 @@
 -- The test is the definition's.
 use borrow.Author.Tests.{lt-ltb, le-ltb}
-use mathlib.Core.Path.{_≡_, sym}
 use Rattle.records.specs.Records.{uncut}
 use borrow.Author.Needs.{needs}
 use Rattle.records.proofs.uncut_at_front.Statement.{statement}

@@ -4,8 +4,9 @@ use mathlib.Core.Path.{_≡_, refl, _∙_}
 use native.Mathlib.Omega.{arith}
 use lib.ListN.{length}
 use lib.Seq.{paste, paste-zero}
+use lib.Bits.{bitXor}
 use Rattle.rules.specs.Words.{zeros, xorRow}
-use Rattle.rules.proofs.Rows.{xorEach, each-more, each-all}
+use Rattle.rules.proofs.Rows.{zip-more, zip-all}
 use borrow.Author.Needs.{needs}
 use Rattle.rows.proofs.xor_row.Statement.{statement}
 use Rattle.rows.proofs.xor_row.Tie as tie
@@ -40,7 +41,7 @@ loop-again c =
     let b = c .before .before .args .t2 in
     let ha : length a ≡ 32 = search needs in
     let hb : length b ≡ 32 = search needs in
-    (omega arith, rw (c .before .loop .inv .1) (each-more xorEach (zeros 32) a b (c .before .loop .i) (omega arith) (omega arith) (omega arith)))
+    (omega arith, rw (c .before .loop .inv .1) (zip-more bitXor (zeros 32) a b (c .before .loop .i) (omega arith) (omega arith) (omega arith)))
 
 returns : tie.Need-returns Inv-loop μ-loop
 returns c =
@@ -49,7 +50,7 @@ returns c =
     let ha : length a ≡ 32 = search needs in
     let hb : length b ≡ 32 = search needs in
     let e : c .before .loop .i ≡ 32 = omega arith in
-    c .before .loop .inv .1 ∙ rw e (each-all xorEach (zeros 32) a b 32 refl ha hb)
+    c .before .loop .inv .1 ∙ rw e (zip-all bitXor (zeros 32) a b 32 refl ha hb)
 
 pub xor-row-spec : {M : Type 1} → statement M
 xor-row-spec =

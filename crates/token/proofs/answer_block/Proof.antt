@@ -5,13 +5,13 @@ use native.Mathlib.Nat.{sub-zero}
 use native.Mathlib.Omega.{arith}
 use denote.Ref.{now}
 use lib.ListN.{length}
+use lib.Seq.{take-append-seam}
 use Rattle.wire.proofs.Laws.{put-fits, whole-length}
 use Rattle.rules.specs.Events.{blockTurn, answering, planFor}
 use Rattle.rules.specs.Plan.{apply}
 use Rattle.rules.specs.declared.Reply.{Reply}
-use Rattle.token.proofs.Answers.{few-for}
+use Rattle.rules.proofs.Answers.{few-for}
 use Rattle.token.proofs.Ends.{end-answered}
-use Rattle.token.proofs.Filled.{take-answer}
 use borrow.Author.Needs.{needs}
 use Rattle.token.proofs.answer_block.Statement.{statement}
 use Rattle.token.proofs.answer_block.Tie as tie
@@ -61,7 +61,7 @@ returns c =
     let whole = sym (c .before .before .before .before .before .before .before .before .before .before .before .is-whole .ensures) ∙ c .before .before .before .before .before .before .before .before .before .before .if1 .taken in
     let put = c .before .before .put .ensures in
     let end = end-answered (a .token) (answering (apply plan (a .token .device)) (a .token .power) (plan .answer)) (now (a .random)) (now (a .output)) (plan .answer) output35 random32 refl in
-    rw (start .pre .0, whole, put .0, put .1, sub-zero, c .before .before .before .before .before .before .before .before .run-block .ensures, take-answer (plan .answer), fit .0, fit .1) end
+    rw (start .pre .0, whole, put .0, put .1, sub-zero, c .before .before .before .before .before .before .before .before .run-block .ensures, take-append-seam (plan .answer), fit .0, fit .1) end
 
 same-length-2 : tie.Need-same-length-2
 same-length-2 c = search needs

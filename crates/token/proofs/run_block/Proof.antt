@@ -5,7 +5,7 @@ use denote.Ref.{now}
 use Prim.Native.Nat.{_-_}
 use lib.ListN.{length}
 use Rattle.rows.specs.Row.{row}
-use Rattle.token.proofs.Filled.{row-all}
+use Rattle.rows.proofs.Row.{row-all}
 use Rattle.rules.specs.Events.{planFor}
 use borrow.Author.Needs.{needs}
 use Rattle.token.proofs.run_block.Statement.{statement}

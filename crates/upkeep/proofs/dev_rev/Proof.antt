@@ -1,8 +1,9 @@
 -- RevNum's four bytes are all there, filled up with zeros as the reply asks.
 use mathlib.Core.Path.{_≡_, sym, _∙_}
 use native.Mathlib.Omega.{arith}
-use lib.ListN.{length, take, drop, length-take, length-drop}
+use lib.ListN.{length}
 use Rattle.rules.specs.Upkeep.{devRev}
+use Rattle.rules.proofs.Rows.{length-part}
 use Rattle.rows.proofs.Row.{row-there}
 use borrow.Author.Needs.{needs}
 use Rattle.upkeep.proofs.dev_rev.Statement.{statement}
@@ -30,7 +31,7 @@ returns c =
     let config = p .before .before .before .args .d .config in
     let shape = sym (p .before .dev-rev-shape .ensures) ∙ p .if1 .taken in
     let h : length config ≡ 88 = search needs in
-    let four : length (take 4 (drop 4 config)) ≡ 4 = simp (length-take, length-drop) (omega arith) in
+    let four = length-part config 4 4 (omega arith) in
     rw (shape, four, c .ended .ensures, c .before .row-of .ensures, row-there config 4 4 (omega arith) (omega arith))
 
 returns-2 : tie.Need-returns-2

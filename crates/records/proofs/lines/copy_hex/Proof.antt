@@ -2,7 +2,6 @@
 use Prim.Native.Nat.{_+_, _*_, _≤_, _-_}
 use mathlib.Core.Path.{_≡_, refl, sym, _∙_}
 use native.Mathlib.Omega.{arith}
-use native.Mathlib.Nat.{div-lt-iff-lt-mul, mod-lt}
 use denote.Ref.{now}
 use lib.ListN.{length, drop, length-set}
 use lib.Seq.{sets, drop-length}

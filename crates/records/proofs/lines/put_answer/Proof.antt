@@ -6,7 +6,7 @@ use native.Mathlib.Omega.{arith}
 use denote.Ref.{now}
 use lib.ListN.{length, length-append, length-set}
 use Rattle.records.specs.Records.{ascii, hex}
-use Rattle.records.proofs.Put.{length-hex, not-put, placed, chained}
+use Rattle.records.proofs.Put.{length-hex, not-put-answer, placed, chained}
 use borrow.Author.Needs.{needs}
 use Rattle.records.proofs.lines.put_answer.Statement.{statement}
 use Rattle.records.proofs.lines.put_answer.Tie as tie
@@ -14,7 +14,7 @@ use Rattle.records.proofs.lines.put_answer.Tie as tie
 returns : tie.Need-returns
 returns c =
     let x = c .before .before .before .before .args in
-    not-put (now (x .out)) (x .at) (now (x .name) ++ (hex (now (x .answer)) ++ ascii "\n")) (simp (length-append, length-hex) (omega arith))
+    not-put-answer (now (x .out)) (x .at) (now (x .name)) (now (x .answer)) (omega arith)
 
 sub-room : tie.Need-sub-room
 sub-room c = search needs
@@ -25,7 +25,7 @@ sub-room-2 c = search needs
 returns-2 : tie.Need-returns-2
 returns-2 c =
     let x = c .before .before .before .before .before .args in
-    not-put (now (x .out)) (x .at) (now (x .name) ++ (hex (now (x .answer)) ++ ascii "\n")) (simp (length-append, length-hex) (omega arith))
+    not-put-answer (now (x .out)) (x .at) (now (x .name)) (now (x .answer)) (omega arith)
 
 sub-if3 : tie.Need-sub-if3
 sub-if3 c = search needs
@@ -33,7 +33,7 @@ sub-if3 c = search needs
 returns-3 : tie.Need-returns-3
 returns-3 c =
     let x = c .before .before .before .before .before .before .args in
-    not-put (now (x .out)) (x .at) (now (x .name) ++ (hex (now (x .answer)) ++ ascii "\n")) (simp (length-append, length-hex) (omega arith))
+    not-put-answer (now (x .out)) (x .at) (now (x .name)) (now (x .answer)) (omega arith)
 
 copy-requires : tie.Need-copy-requires
 copy-requires c κs = search needs
@@ -55,15 +55,16 @@ same-length c = simp length-set (search needs)
 
 returns-4 : tie.Need-returns-4
 returns-4 c =
-    let x = c .before .before .before .before .before .before .before .before .before .before .before .before .before .before .args in
+    let named = c .before .before .before .before .before .before in
+    let x = named .before .before .before .before .before .before .before .before .args in
     let o = now (x .out) in
     let a = now (x .name) in
     let h = hex (now (x .answer)) in
     let n : length (a ++ (h ++ ascii "\n")) ≡ length a + (2 * length (now (x .answer)) + 1) = simp (length-append, length-hex) in
     let m : length h ≡ 2 * length (now (x .answer)) = length-hex (now (x .answer)) in
-    let after : c .before .before .copy-hex .result ≡ c .before .before .before .before .before .before .copy .result + length h = omega arith in
-    let tail = chained (c .before .before .before .before .before .before .copy .last .0) h (10 ∷ []) (c .before .before .before .before .before .before .copy .result) (c .before .before .copy-hex .ensures .1) after refl in
-    placed o (a ++ (h ++ ascii "\n")) (x .at) (omega arith) (chained o a (h ++ ascii "\n") (x .at) (c .before .before .before .before .before .before .copy .ensures .1) (c .before .before .before .before .before .before .copy .ensures .0) tail) (omega arith)
+    let after : c .before .before .copy-hex .result ≡ named .copy .result + length h = omega arith in
+    let tail = chained (named .copy .last .0) h (10 ∷ []) (named .copy .result) (c .before .before .copy-hex .ensures .1) after refl in
+    placed o (a ++ (h ++ ascii "\n")) (x .at) (omega arith) (chained o a (h ++ ascii "\n") (x .at) (named .copy .ensures .1) (named .copy .ensures .0) tail) (omega arith)
 
 pub put-answer-spec : {M : Type 1} → statement M
 put-answer-spec =

@@ -1,10 +1,5 @@
 -- The digits that are lent are the offset's, and a line feed.
-use Prim.Native.Nat.{_-_}
-use mathlib.Core.Path.{_≡_}
-use mathlib.Core.List.{_∷_, [], _++_}
 use native.Mathlib.Omega.{arith}
-use lib.ListN.{take, drop}
-use Rattle.records.specs.Records.{decimal}
 use Rattle.records.proofs.Decimal.{zeros-few, printed}
 use borrow.Author.Needs.{needs}
 use Rattle.records.proofs.lines.put_bad.Statement.{statement}
@@ -48,10 +43,14 @@ same-length c = search needs
 
 returns : tie.Need-returns
 returns c =
-    let n = c .before .before .before .before .before .before .before .before .before .before .before .before .before .before .args .offset in
-    let from = c .before .before .before .before .before .before .before .zeros-in-front .result in
-    let e : take (6 - from) (drop from (c .before .before .before .before .before .before .before .before .before .before .before .before .digit .result ∷ c .before .before .before .before .before .before .before .before .before .before .before .digit2 .result ∷ c .before .before .before .before .before .before .before .before .before .before .digit3 .result ∷ c .before .before .before .before .before .before .before .before .before .digit4 .result ∷ c .before .before .before .before .before .before .before .before .digit5 .result ∷ 10 ∷ [])) ≡ decimal n ++ (10 ∷ []) =
-    rw (c .before .before .before .before .before .before .before .before .before .before .before .before .digit .ensures, c .before .before .before .before .before .before .before .before .before .before .before .digit2 .ensures, c .before .before .before .before .before .before .before .before .before .before .digit3 .ensures, c .before .before .before .before .before .before .before .before .before .digit4 .ensures, c .before .before .before .before .before .before .before .before .digit5 .ensures) (printed n from (c .before .before .before .before .before .before .before .zeros-in-front .ensures)) in
+    let zeros = c .before .before .before .before .before .before .before in
+    let ones = zeros .before in
+    let tens = ones .before in
+    let hundreds = tens .before in
+    let thousands = hundreds .before in
+    let tenThousands = thousands .before in
+    let n = tenThousands .before .before .args .offset in
+    let e = printed n (zeros .zeros-in-front .ensures) (tenThousands .digit .ensures) (thousands .digit2 .ensures) (hundreds .digit3 .ensures) (tens .digit4 .ensures) (ones .digit5 .ensures) in
     rw e at (c .before .before .put-text .ensures)
 
 pub put-bad-spec : {M : Type 1} → statement M

@@ -1,5 +1,5 @@
 -- The answer is shown where the number is 0, else `none`.
-use mathlib.Core.Path.{_≡_, sym, _∙_}
+use mathlib.Core.Path.{sym, _∙_}
 use Rattle.records.specs.Records.{eventLine}
 use borrow.Author.Needs.{needs}
 use Rattle.records.proofs.lines.put_event.Statement.{statement}

@@ -1,0 +1,2 @@
+-- A law of the shape, for the proofs to cite.
+pub mod Shape

@@ -1,6 +1,6 @@
 -- The line that is put for a record, and what is told of it.
-use Prim.Native.Nat.{ℕ, _+_, _≤_}
-use mathlib.Core.Path.{_≡_, ap, sym, _∙_}
+use Prim.Native.Nat.{ℕ, _+_, _-_, _≤_}
+use mathlib.Core.Path.{_≡_, refl, ap, sym, _∙_}
 use mathlib.Core.List.{List, _++_}
 use native.Mathlib.Omega.{arith}
 use borrow.Author.Tests.{le-ltb}
@@ -12,7 +12,7 @@ use Rattle.token.specs.declared.Token.{Token}
 use Rattle.token.specs.declared.Outcome.{Outcome}
 use Rattle.records.specs.declared.Record.{Record}
 use Rattle.records.specs.Records.{recordAt, lengthOf, lineOf, putLength, putOutput}
-use Rattle.records.proofs.Put.{put}
+use Rattle.records.proofs.Put.{placed}
 use Rattle.bench.specs.Bench.{turnOf, turnAt, after, lineAt}
 use Rattle.bench.proofs.Given.{Given}
 
@@ -43,6 +43,7 @@ module _ (s : Token) (input : List ℕ) (at : ℕ) where
     told w k g f l =
         let a : answer ≡ turnOf what s input at .answer = f ∙ rw (g .0, g .1) (front-answer (turnOf what s input at .answer) _) in
         let line = line-is w (ap (λ (x : Outcome). x .number) (g .0)) a in
-        let p = put out used (lineAt s input at) room in
+        let p = placed out (lineAt s input at) used room refl refl in
         let m = rw line at l in
-        (ap (λ (x : Outcome). x .token) (g .0) ∙ rw w, (k ∙ ap lengthOf w, (ap (λ (k : ℕ). used + k) (m .0 ∙ sym (p .0)), m .1 ∙ sym (p .1))))
+        let long : n ≡ used + length (lineAt s input at) - used = m .0 ∙ sym (p .0) in
+        (ap (λ (x : Outcome). x .token) (g .0) ∙ rw w, (k ∙ ap lengthOf w, (omega arith, m .1 ∙ sym (p .1))))

@@ -18,7 +18,7 @@ use Rattle.rules.specs.Plan.{apply}
 use Rattle.rules.specs.Events.{Turn, silent, answering, wakeTurn, idleTurn, sleepTurn, blockTurn, planFor, numberFor}
 use Rattle.token.specs.declared.Token.{Token}
 use Rattle.token.specs.Outcome.{freshOf}
-use Rattle.token.proofs.Answers.{few-for}
+use Rattle.rules.proofs.Answers.{few-for}
 use Rattle.records.specs.declared.Record.{Record}
 use Rattle.records.specs.declared.Record.the-variants.{Image, Wake, Idle, Sleep, Block, Bad}
 use Rattle.records.specs.Records.{recordAt, lengthOf, blockAt, randomAt, ascii, eventLine, lineOf, decimal, tooLong}

@@ -80,9 +80,9 @@ fn tell(token: Token, input: &[u8], at: usize, out: &mut [u8], used: usize) -> T
     let number = next.number;
     let n = next.length;
     let length = lines::put_line(out, used, what, at as u16, number, token::front(&output, n));
-    let token = next.token;
+    let after = next.token;
     Told {
-        token,
+        token: after,
         taken,
         used: used + length,
     }

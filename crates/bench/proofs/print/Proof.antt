@@ -1,6 +1,6 @@
 -- The input is too long, or its records are run.
 use Prim.Native.Nat.{ℕ, _≤_, _<_}
-use mathlib.Core.Path.{_≡_, sym, _∙_}
+use mathlib.Core.Path.{_≡_, refl, sym, _∙_}
 use mathlib.Core.List.{List}
 use native.Mathlib.Omega.{arith}
 use borrow.Author.Tests.{le-leb, lt-leb}
@@ -8,7 +8,7 @@ use denote.Ref.{now}
 use lib.ListN.{length}
 use lib.Seq.{sets}
 use Rattle.records.specs.Records.{tooLong, putLength, putOutput}
-use Rattle.records.proofs.Put.{put}
+use Rattle.records.proofs.Put.{placed}
 use Rattle.bench.specs.Bench.{lines, printed}
 use borrow.Author.Needs.{needs}
 use Rattle.bench.proofs.print.Statement.{statement}
@@ -27,9 +27,10 @@ put-long : (input out : List ℕ) {n : ℕ} {last : List ℕ} → 65536 < length
     → (n ≡ length (printed input)) × (last ≡ sets out 0 (printed input))
 put-long input out h room g =
     let e = printed-long input h in
-    let p = put out 0 (printed input) (omega arith) in
+    let p = placed out (printed input) 0 (omega arith) refl refl in
     let g' = rw (← e) at g in
-    (g' .0 ∙ sym (p .0), g' .1 ∙ sym (p .1))
+    let long = g' .0 ∙ sym (p .0) in
+    (omega arith, g' .1 ∙ sym (p .1))
 
 put-too-long-requires : tie.Need-put-too-long-requires
 put-too-long-requires c κs = search needs

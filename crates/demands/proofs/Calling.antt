@@ -20,7 +20,7 @@ use Rattle.rules.proofs.Tests.{and-left, and-right}
 use Rattle.token.specs.declared.Token.{Token}
 use Rattle.token.specs.declared.Outcome.{Outcome}
 use Rattle.token.specs.Outcome.{outcome, unchanged}
-use Rattle.demands.specs.Calls.{Call, turnOf, given, outputOf, answerOf, buffersFit, runs, blockOf, after}
+use Rattle.demands.specs.Calls.{Call, turnOf, given, outputOf, answerOf, rightBuffers, runs, blockOf, after}
 
 -- ---- events
 
@@ -59,7 +59,7 @@ call-cases P s c short wrong right = go (length (c .output) under 35) (length (c
   go false true h = h refl refl
   go false false h = wrong
 
-pub call-fits : (s : Token) (c : Call) → buffersFit c ≡ true → (given s c ≡ turned (turnOf s c)) × (outputOf s c ≡ answered (turnOf s c) (c .output))
+pub call-fits : (s : Token) (c : Call) → rightBuffers c ≡ true → (given s c ≡ turned (turnOf s c)) × (outputOf s c ≡ answered (turnOf s c) (c .output))
 unfolding outcome outputAfter
 call-fits s c h =
     let out : ℕ = length (c .output) in
@@ -80,23 +80,23 @@ unfolding runs
 block-runs s c b wide right e a w =
     rw (le-leb 35 (length (c .output)) (ltb-false (length (c .output)) 35 wide), right, a, e, w)
 
-runs-fits : (s : Token) (c : Call) → runs s c ≡ true → buffersFit c ≡ true
+runs-fits : (s : Token) (c : Call) → runs s c ≡ true → rightBuffers c ≡ true
 unfolding runs
-runs-fits s c h = and-left (buffersFit c) (isAwake (s .power)) (and-left (buffersFit c && isAwake (s .power)) _ h)
+runs-fits s c h = and-left (rightBuffers c) (isAwake (s .power)) (and-left (rightBuffers c && isAwake (s .power)) _ h)
 
 runs-turn : (s : Token) (c : Call) → runs s c ≡ true
     → turnOf s c .answer ≡ frame (planFor (s .device) (blockOf (c .event)) (c .random) .answer)
 unfolding runs blockTurn
 runs-turn s c h = go (c .event) h where
   ready : Bool
-  ready = buffersFit c && isAwake (s .power)
+  ready = rightBuffers c && isAwake (s .power)
 
   go : (e : Event) → runs s (record { event = e; random = c .random; output = c .output }) ≡ true
       → turn (s .device) (s .power) e (c .random) .answer ≡ frame (planFor (s .device) (blockOf e) (c .random) .answer)
   go wake h = absurd (false≢true (and-right ready false h))
   go idle h = absurd (false≢true (and-right ready false h))
   go sleep h = absurd (false≢true (and-right ready false h))
-  go (block b) h = rw (and-right (buffersFit c) (isAwake (s .power)) (and-left ready (whole b) h), and-right ready (whole b) h)
+  go (block b) h = rw (and-right (rightBuffers c) (isAwake (s .power)) (and-left ready (whole b) h), and-right ready (whole b) h)
 
 -- and is answered by what its rule comes to
 pub runs-answer : (s : Token) (c : Call) → runs s c ≡ true → answerOf s c ≡ frame (planFor (s .device) (blockOf (c .event)) (c .random) .answer)

@@ -28,7 +28,7 @@ use Rattle.rules.proofs.Tests.{and-left, and-right}
 use Rattle.rules.proofs.Settle.{settle-all}
 use Rattle.token.specs.declared.Token.{Token}
 use Rattle.token.specs.declared.Outcome.{Outcome}
-use Rattle.demands.specs.Calls.{Call, given, answerOf, buffersFit, runs, blockOf, commandIn, ruleIn, after}
+use Rattle.demands.specs.Calls.{Call, given, answerOf, rightBuffers, runs, blockOf, commandIn, ruleIn, after}
 use Rattle.demands.specs.Incident.{NonceAccepted, NoNonce, needsTempKey, NoChallenge, Incident}
 use Rattle.demands.proofs.Calling.{turn-device, call-cases, call-fits, block-runs, runs-answer}
 use Rattle.demands.proofs.TempKey.{unmet, others-same}
@@ -108,7 +108,7 @@ run-empty : (s : Token) (cs : List Call) → NoNonce s cs → Empty s → Empty 
 run-empty s [] none h = h
 run-empty s (c ∷ cs) none h = run-empty (given s c .token) cs (none .1) (call-empty s c (none .0) h)
 
-sleep-empty : (s : Token) (c : Call) → c .event ≡ sleep → buffersFit c ≡ true → Empty (given s c .token)
+sleep-empty : (s : Token) (c : Call) → c .event ≡ sleep → rightBuffers c ≡ true → Empty (given s c .token)
 unfolding sleepTurn
 sleep-empty s c e h = rw (call-fits s c h .0, e)
 
@@ -117,7 +117,7 @@ run-answer : (s : Token) (c : Call) → runs s c ≡ true → answerOf s c ≡ f
 unfolding planFor
 run-answer = runs-answer
 
-slept : (s : Token) (c : Call) (cs : List Call) → c .event ≡ sleep → buffersFit c ≡ true → NoNonce (given s c .token) cs
+slept : (s : Token) (c : Call) (cs : List Call) → c .event ≡ sleep → rightBuffers c ≡ true → NoNonce (given s c .token) cs
     → NoChallenge (after s (c ∷ cs))
 slept s c cs e h none =
     let t : Token = after s (c ∷ cs) in

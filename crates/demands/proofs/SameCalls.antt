@@ -14,7 +14,7 @@ use Rattle.rules.specs.Events.{Event, wake, idle, sleep, block, planFor, opcode
 use Rattle.token.specs.declared.Token.{Token}
 use Rattle.token.specs.declared.Outcome.{Outcome}
 use Rattle.token.specs.Outcome.{outcome}
-use Rattle.demands.specs.Calls.{Call, turnOf, given, outputOf, buffersFit, runs, blockOf, commandIn, draws}
+use Rattle.demands.specs.Calls.{Call, turnOf, given, outputOf, rightBuffers, runs, blockOf, commandIn, draws}
 use Rattle.demands.specs.Demand3.{Alike, Kept, drawsOn, isMac, SameCall}
 use Rattle.demands.proofs.Beside.{Beside, withData, Near}
 use Rattle.demands.proofs.SamePlans.{draws-same}
@@ -48,9 +48,9 @@ alike-beside k s t a = record { sameLength = a .dataLength; elsewhere = a .elsew
 drawn-fits : (s : Token) (e : Event) (supplied output : List ℕ) → (length output under 35) ≡ false → (length supplied is 32) ≡ true
     → draws s (record { event = e; random = supplied; output = output }) ≡ drawnIn (s .device) (s .power) e supplied
 unfolding draws runs
-drawn-fits s wake supplied output a b = rw (and-false (buffersFit _ && isAwake (s .power)))
-drawn-fits s idle supplied output a b = rw (and-false (buffersFit _ && isAwake (s .power)))
-drawn-fits s sleep supplied output a b = rw (and-false (buffersFit _ && isAwake (s .power)))
+drawn-fits s wake supplied output a b = rw (and-false (rightBuffers _ && isAwake (s .power)))
+drawn-fits s idle supplied output a b = rw (and-false (rightBuffers _ && isAwake (s .power)))
+drawn-fits s sleep supplied output a b = rw (and-false (rightBuffers _ && isAwake (s .power)))
 drawn-fits s (block x) supplied output a b = rw (le-leb 35 (length output) (ltb-false (length output) 35 a), b)
 
 record SameOutcome (k : Slot) (o q : Outcome) : Type 0 where

@@ -5,14 +5,14 @@ use mathlib.Core.List.{List, [], _∷_, _++_}
 use lib.ListN.{length, set}
 use Rattle.wire.specs.Wire.{if_then_else_, frame, whole}
 use Rattle.rules.specs.declared.Slot.{Slot}
-use Rattle.rules.specs.Words.{_is_, _upTo_, zeros, lowFirst}
+use Rattle.rules.specs.Words.{zeros, lowFirst}
 use Rattle.rules.specs.State.{isAwake}
 use Rattle.rules.specs.Plan.{Rule}
 use Rattle.rules.specs.Commands.{Command, commandOf, ruleOf}
 use Rattle.rules.specs.Events.{Event, wake, idle, sleep, block, Turn, turn, planFor, opcodeOf, fieldsOf, inputOf, outputAfter, frontOf}
 use Rattle.token.specs.declared.Token.{Token}
 use Rattle.token.specs.declared.Outcome.{Outcome}
-use Rattle.token.specs.Outcome.{outcome, freshOf}
+use Rattle.token.specs.Outcome.{outcome, buffersFit, freshOf}
 
 -- A call is an event with its block, its random bytes and its output buffer, all of any content and length.
 pub record Call : Type 0 where
@@ -37,12 +37,12 @@ answerOf s c = frontOf (given s c .length) (outputOf s c)
 -- ---- drawing on a slot
 
 -- the buffers are right: numbers 1 and 2 do not apply
-abbrev pub buffersFit : Call → Bool
-buffersFit c = 35 upTo length (c .output) && length (c .random) is 32
+abbrev pub rightBuffers : Call → Bool
+rightBuffers c = buffersFit (length (c .random)) (length (c .output))
 
 -- whether a call runs a command: a whole block given to a token that is Awake, with buffers that are right
 unfoldable pub runs : Token → Call → Bool
-runs s c = buffersFit c && isAwake (s .power) && wholeBlock (c .event) where
+runs s c = rightBuffers c && isAwake (s .power) && wholeBlock (c .event) where
   wholeBlock : Event → Bool
   wholeBlock wake = false
   wholeBlock idle = false

@@ -19,7 +19,7 @@ use Rattle.rules.specs.Write.{encrypted}
 use Rattle.rules.specs.Commands.{Command, aRead, aMac, aWrite, aGenDig, aNonce, aLock, aRandom, aDeriveKey, anUpdateExtra, aCheckMac, aDevRev, unknown, planOf}
 use Rattle.rules.specs.Events.{sleep, fieldsOf}
 use Rattle.token.specs.declared.Token.{Token}
-use Rattle.demands.specs.Calls.{Call, given, answerOf, buffersFit, runs, blockOf, commandIn, ruleIn, after}
+use Rattle.demands.specs.Calls.{Call, given, answerOf, rightBuffers, runs, blockOf, commandIn, ruleIn, after}
 
 -- A Nonce is accepted: it runs, and its shape is right; it has no other condition.
 pub record NonceAccepted (s : Token) (c : Call) : Type 0 where
@@ -55,7 +55,7 @@ pub record NoChallenge (s : Token) : Type 0 where
 
 pub record Incident : Type 0 where
   -- after a sleep of any token, with buffers that are right, over any calls in which no Nonce is accepted, no challenge is left
-  pub slept : (s : Token) (c : Call) (cs : List Call) → c .event ≡ sleep → buffersFit c ≡ true → NoNonce (given s c .token) cs
+  pub slept : (s : Token) (c : Call) (cs : List Call) → c .event ≡ sleep → rightBuffers c ≡ true → NoNonce (given s c .token) cs
       → NoChallenge (after s (c ∷ cs))
   -- no command was left out: any other comes to the same whatever TempKey holds
   pub others : (c : Command) (d : Device) (t : TempKey) (f : Fields) (input supplied : List ℕ) → needsTempKey c d f ≡ false

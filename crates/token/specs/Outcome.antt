@@ -1,12 +1,13 @@
 -- An event gives its number, the new state and the answer's length.
 use Prim.Native.Nat.{ℕ}
+use mathlib.Core.Bool.{Bool, _&&_}
 use mathlib.Core.List.{List}
 use lib.ListN.{length}
 use Rattle.rules.specs.declared.Number.{Number}
 use Rattle.rules.specs.declared.Number.the-variants.{ShortOutput, WrongRandom}
 use Rattle.rules.specs.declared.Power.the-variants.{Asleep}
 use Rattle.wire.specs.Wire.{if_then_else_}
-use Rattle.rules.specs.Words.{_is_, _under_}
+use Rattle.rules.specs.Words.{_is_, _under_, _upTo_}
 use Rattle.rules.specs.State.{freshDevice, freshNumber}
 use Rattle.rules.specs.Events.{Turn, numberFor}
 use Rattle.token.specs.declared.Token.{Token}
@@ -16,6 +17,13 @@ use Rattle.token.specs.declared.fresh.Made.{Made}
 -- a number with an empty answer, the token as it is
 abbrev pub unchanged : Token → Number → Outcome
 unchanged s n = record { token = s; number = n; length = 0 }
+
+-- 1 output under 35 bytes, 2 random bytes not exactly 32. Buffers of so many bytes are right where neither applies; which applies where they are not
+abbrev pub buffersFit : ℕ → ℕ → Bool
+buffersFit supplied output = 35 upTo output && supplied is 32
+
+abbrev pub refusal : ℕ → Number
+refusal output = if output under 35 then ShortOutput else WrongRandom
 
 -- 1 and 2 apply to every event and precede all else, 1 first.
 unfoldable pub outcome : Token → Turn → List ℕ → List ℕ → Outcome

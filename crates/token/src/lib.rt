@@ -9,7 +9,7 @@ ghost use Rattle.rules.specs.State.{numberOf, statusByte, isAwake};
 ghost use Rattle.rules.specs.Plan.{reply};
 ghost use Rattle.rules.specs.Commands.{commandOf, planOf};
 ghost use Rattle.rules.specs.Events.{planFor, frontOf, wakeTurn, idleTurn, sleepTurn, blockTurn, outputAfter};
-ghost use Rattle.token.specs.Outcome.{outcome, unchanged};
+ghost use Rattle.token.specs.Outcome.{outcome, unchanged, buffersFit, refusal};
 use rules::Device;
 use rules::Fields;
 use rules::Number;
@@ -66,7 +66,7 @@ fn is_awake(p: Power) -> bool
     }
 }
 
-// An event that leaves the token as it is and answers nothing.
+// A token as an event leaves it, and no answer.
 fn left(token: Token, number: Number) -> Outcome
     ensures { λ r. ⌜ r ≡ unchanged token number ⌝ }
 {
@@ -74,6 +74,24 @@ fn left(token: Token, number: Number) -> Outcome
         token,
         number,
         length: 0,
+    }
+}
+
+// Whether so many random bytes and so many bytes of output are right.
+fn buffers_fit(random: usize, output: usize) -> bool
+    ensures { λ r. ⌜ r ≡ buffersFit random output ⌝ }
+{
+    (35 <= output) & (random == 32)
+}
+
+// An event whose buffers are not right: number 1 for the output, else 2 for the random bytes.
+fn refused(token: Token, output: usize) -> Outcome
+    ensures { λ r. ⌜ r ≡ unchanged token (refusal output) ⌝ }
+{
+    if output < 35 {
+        left(token, Number::ShortOutput)
+    } else {
+        left(token, Number::WrongRandom)
     }
 }
 
@@ -163,11 +181,8 @@ impl Token {
         ensures { λ r. ⌜ r ≡ outcome self (wakeTurn (self .device) (self .power)) (now (random .entry)) (now (output .entry)) ⌝ }
         ensures { λ r. ⌜ now (output .exit) ≡ outputAfter (wakeTurn (self .device) (self .power)) (now (random .entry)) (now (output .entry)) ⌝ }
     {
-        if output.len() < 35 {
-            return left(self, Number::ShortOutput);
-        }
-        if random.len() != 32 {
-            return left(self, Number::WrongRandom);
+        if !buffers_fit(random.len(), output.len()) {
+            return refused(self, output.len());
         }
         let power = self.power;
         if is_awake(power) {
@@ -190,11 +205,8 @@ impl Token {
         ensures { λ r. ⌜ r ≡ outcome self (idleTurn (self .device) (self .power)) (now (random .entry)) (now (output .entry)) ⌝ }
         ensures { λ r. ⌜ now (output .exit) ≡ outputAfter (idleTurn (self .device) (self .power)) (now (random .entry)) (now (output .entry)) ⌝ }
     {
-        if output.len() < 35 {
-            return left(self, Number::ShortOutput);
-        }
-        if random.len() != 32 {
-            return left(self, Number::WrongRandom);
+        if !buffers_fit(random.len(), output.len()) {
+            return refused(self, output.len());
         }
         let power = self.power;
         if is_awake(power) {
@@ -216,11 +228,8 @@ impl Token {
         ensures { λ r. ⌜ r ≡ outcome self (sleepTurn (self .device) (self .power)) (now (random .entry)) (now (output .entry)) ⌝ }
         ensures { λ r. ⌜ now (output .exit) ≡ outputAfter (sleepTurn (self .device) (self .power)) (now (random .entry)) (now (output .entry)) ⌝ }
     {
-        if output.len() < 35 {
-            return left(self, Number::ShortOutput);
-        }
-        if random.len() != 32 {
-            return left(self, Number::WrongRandom);
+        if !buffers_fit(random.len(), output.len()) {
+            return refused(self, output.len());
         }
         let mut device = self.device;
         device.tempKey = replies::emptied_key();
@@ -235,11 +244,8 @@ impl Token {
         ensures { λ r. ⌜ r ≡ outcome self (blockTurn (self .device) (self .power) (now (block .entry)) (now (random .entry))) (now (random .entry)) (now (output .entry)) ⌝ }
         ensures { λ r. ⌜ now (output .exit) ≡ outputAfter (blockTurn (self .device) (self .power) (now (block .entry)) (now (random .entry))) (now (random .entry)) (now (output .entry)) ⌝ }
     {
-        if output.len() < 35 {
-            return left(self, Number::ShortOutput);
-        }
-        if random.len() != 32 {
-            return left(self, Number::WrongRandom);
+        if !buffers_fit(random.len(), output.len()) {
+            return refused(self, output.len());
         }
         let power = self.power;
         if is_awake(power) {

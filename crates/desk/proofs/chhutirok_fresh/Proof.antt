@@ -23,7 +23,10 @@ same-length c = search needs
 
 returns : tie.Need-returns
 unfolding freshCallNumber freshState
-returns c = rw (eq-eqb _ _ (c .before .before .before .before .before .before .before .if1 .taken), c .number-of .ensures, c .before .before .before .save .ensures, c .before .before .before .before .before .before .fresh .ensures) (refl, refl)
+returns c =
+    let saving = c .before .before .before in
+    let making = saving .before .before .before in
+    rw (eq-eqb _ _ (making .before .if1 .taken), c .number-of .ensures, saving .save .ensures, making .fresh .ensures) (refl, refl)
 
 returns-2 : tie.Need-returns-2
 unfolding freshCallNumber freshState

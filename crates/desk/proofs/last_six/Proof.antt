@@ -21,7 +21,11 @@ power-byte-requires c κs = search needs
 
 returns : tie.Need-returns
 unfolding lastSix
-returns c = rw (c .before .before .before .before .flag-byte .ensures, c .before .before .before .flag-byte2 .ensures, c .before .before .flag-byte3 .ensures, c .before .flag-byte4 .ensures, c .power-byte .ensures)
+returns c =
+    let fourth = c .before in
+    let third = fourth .before in
+    let second = third .before in
+    rw (second .before .flag-byte .ensures, second .flag-byte2 .ensures, third .flag-byte3 .ensures, fourth .flag-byte4 .ensures, c .power-byte .ensures)
 
 pub last-six-spec : {M : Type 1} → statement M
 last-six-spec =

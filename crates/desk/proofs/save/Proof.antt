@@ -9,44 +9,55 @@ use borrow.Author.Needs.{needs}
 use Rattle.desk.proofs.save.Statement.{statement}
 use Rattle.desk.proofs.save.Tie as tie
 
+-- the entry, from the place behind a part that is laid
+abbrev entry₁ : tie.After-lay → tie.Start
+entry₁ c = c .before .before .before .before .before .before
+
+abbrev entry₂ : tie.After-lay2 → tie.Start
+entry₂ c = entry₁ (c .before .before .before .before .before .before)
+
+abbrev entry₃ : tie.After-lay3 → tie.Start
+entry₃ c = entry₂ (c .before .before .before .before .before .before)
+
+abbrev entry₄ : tie.After-lay4 → tie.Start
+entry₄ c = entry₃ (c .before .before .before .before .before .before .before)
+
+-- how long the parts are
+config-long : (c : tie.Start) → length (c .args .t .device .config) ≡ 88
+config-long c = search (needs, c .good)
+
+otp-long : (c : tie.Start) → length (c .args .t .device .otp) ≡ 64
+otp-long c = search (needs, c .good)
+
+data-long : (c : tie.Start) → length (c .args .t .device .«data») ≡ 512
+data-long c = search (needs, c .good)
+
+key-long : (c : tie.Start) → length (c .args .t .device .tempKey .bytes) ≡ 32
+key-long c = search (needs, c .good .1 .0 .1 .1 .0 .1 .1 .1)
+
 slice-aggregate-lay : tie.Need-slice-aggregate-lay
 slice-aggregate-lay c = search needs
 
 lay-requires : tie.Need-lay-requires
-lay-requires c κs =
-    let start = c .before .before .before .before .before in
-    let h : length (start .args .t .device .config) ≡ 88 = search (needs, start .good) in
-    omega arith
+lay-requires c κs = omega (arith, config-long (c .before .before .before .before .before))
 
 slice-aggregate-lay-2 : tie.Need-slice-aggregate-lay-2
 slice-aggregate-lay-2 c = search needs
 
 lay-requires-2 : tie.Need-lay-requires-2
-lay-requires-2 c κs =
-    let start = c .before .before .before .before .before .before .before .before .before .before .before in
-    let h : length (start .args .t .device .otp) ≡ 64 = search (needs, start .good) in
-    omega arith
+lay-requires-2 c κs = omega (arith, otp-long (entry₁ (c .before .before .before .before .before)))
 
 slice-aggregate-lay-3 : tie.Need-slice-aggregate-lay-3
 slice-aggregate-lay-3 c = search needs
 
 lay-requires-3 : tie.Need-lay-requires-3
-lay-requires-3 c κs =
-    let start = c .before .before .before .before .before .before .before .before .before .before .before .before .before .before .before .before .before in
-    let h : length (start .args .t .device .«data») ≡ 512 = search (needs, start .good) in
-    omega arith
+lay-requires-3 c κs = omega (arith, data-long (entry₂ (c .before .before .before .before .before)))
 
 slice-aggregate-lay-4 : tie.Need-slice-aggregate-lay-4
-slice-aggregate-lay-4 c =
-    let start = c .before .before .before .before .before .before .before .before .before .before .before .before .before .before .before .before .before .before .before .before .before .before .before .before in
-    let h : length (start .args .t .device .tempKey .bytes) ≡ 32 = search (needs, start .good .1 .0 .1 .1 .0 .1 .1 .1) in
-    omega arith
+slice-aggregate-lay-4 c = omega (arith, key-long (entry₃ (c .before .before .before .before .before .before)))
 
 lay-requires-4 : tie.Need-lay-requires-4
-lay-requires-4 c κs =
-    let start = c .before .before .before .before .before .before .before .before .before .before .before .before .before .before .before .before .before .before .before .before .before .before .before .before in
-    let h : length (start .args .t .device .tempKey .bytes) ≡ 32 = search (needs, start .good .1 .0 .1 .1 .0 .1 .1 .1) in
-    omega arith
+lay-requires-4 c κs = omega (arith, key-long (entry₃ (c .before .before .before .before .before .before)))
 
 last-six-requires : tie.Need-last-six-requires
 last-six-requires c κs = search needs
@@ -63,20 +74,18 @@ same-length c = search needs
 returns : tie.Need-returns
 unfolding saved
 returns c =
-    let start = c .before .before .before .before .before .before .before .before .before .before .before .before .before .before .before .before .before .before .before .before .before .before .before .before .before .before .before .before .before .before .before .before .before in
-    let d = start .args .t .device in
-    let h1 : length (d .config) ≡ 88 = search (needs, start .good) in
-    let h2 : length (d .otp) ≡ 64 = search (needs, start .good) in
-    let h3 : length (d .«data») ≡ 512 = search (needs, start .good) in
-    let h4 : length (d .tempKey .bytes) ≡ 32 = search (needs, start .good .1 .0 .1 .1 .0 .1 .1 .1) in
-    let six = c .before .before .before .before .before .last-six in
-    let h5 : length (six .result) ≡ 6 = search needs in
-    let fourth = c .before .before .before .before .before .before .before .before in
+    let fifth = c .before .before in
+    let six = fifth .before .before .before .last-six in
+    let fourth = fifth .before .before .before .before .before .before in
     let third = fourth .before .before .before .before .before .before .before in
     let second = third .before .before .before .before .before .before in
     let first = second .before .before .before .before .before .before in
-    laid (now (start .args .s)) (d .config) (d .otp) (d .«data») (d .tempKey .bytes) (six .result) (start .pre) h1 h2 h3 h4 h5
-    (first .lay .ensures) (second .lay2 .ensures) (third .lay3 .ensures) (fourth .lay4 .ensures) (c .before .before .lay5 .ensures)
+    let start = entry₄ fourth in
+    let d = start .args .t .device in
+    let six-long : length (six .result) ≡ 6 = search needs in
+    laid (now (start .args .s)) (d .config) (d .otp) (d .«data») (d .tempKey .bytes) (six .result)
+    (start .pre) (config-long start) (otp-long start) (data-long start) (key-long start) six-long
+    (first .lay .ensures) (second .lay2 .ensures) (third .lay3 .ensures) (fourth .lay4 .ensures) (fifth .lay5 .ensures)
     ∙ rw (six .ensures)
 
 pub save-spec : {M : Type 1} → statement M

@@ -30,9 +30,11 @@ shared-slice-read-t16 c = search needs
 returns : tie.Need-returns
 unfolding tempKeyIn
 returns c =
-    let s = now (c .before .before .before .before .before .before .before .args .s) in
-    let h : length s ≡ 702 = c .before .before .before .before .before .before .before .pre in
-    rw (c .before .before .before .before .before .row-of .ensures, row-whole s 664 (omega arith))
+    let copying = c .before .before .before .before .before in
+    let start = copying .before .before in
+    let s = now (start .args .s) in
+    let h : length s ≡ 702 = start .pre in
+    rw (copying .row-of .ensures, row-whole s 664 (omega arith))
 
 pub temp-key-in-spec : {M : Type 1} → statement M
 temp-key-in-spec =

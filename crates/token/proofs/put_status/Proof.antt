@@ -23,9 +23,11 @@ same-length c = search needs
 
 returns : tie.Need-returns
 returns c =
-    let status = c .before .before .before .before .before .status-byte in
-    let put = c .before .before .put .ensures in
-    let fit = put-fits (now (c .before .before .before .before .before .before .before .args .output)) (status .result ∷ []) (lit≤ tt) (omega arith) in
+    let putting = c .before .before in
+    let put = putting .put .ensures in
+    let stating = putting .before .before .before in
+    let status = stating .status-byte in
+    let fit = put-fits (now (stating .before .before .args .output)) (status .result ∷ []) (lit≤ tt) (omega arith) in
     (put .0 ∙ fit .0, put .1 ∙ fit .1 ∙ rw (status .ensures))
 
 pub put-status-spec : {M : Type 1} → statement M

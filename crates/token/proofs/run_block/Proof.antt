@@ -47,10 +47,12 @@ run-requires c κs = search needs
 returns : tie.Need-returns
 unfolding planFor
 returns c =
-    let a = c .before .before .before .before .before .before .before .before .before .before .args in
+    let copying = c .before in
+    let pairing = copying .before .before .before in
+    let a = pairing .before .before .before .before .before .before .args in
     let random : row (now (a .random)) 0 32 ≡ now (a .random) = row-all (now (a .random)) (omega arith) in
     let sent : length (now (a .block)) - 2 - 5 ≡ length (now (a .block)) - 7 = omega arith in
-    rw (c .run .ensures, c .before .row-of .ensures, random, c .before .before .before .before .pair .ensures, sent)
+    rw (c .run .ensures, copying .row-of .ensures, random, pairing .pair .ensures, sent)
 
 pub run-block-spec : {M : Type 1} → statement M
 run-block-spec =

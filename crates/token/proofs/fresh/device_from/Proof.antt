@@ -47,9 +47,11 @@ store-data-row-requires c κs = search needs
 
 returns : tie.Need-returns
 returns c =
-    let a = c .before .before .before .before .before .before .before .before .args in
-    let image = now (a .image) in
-    device-law image (omega arith) (c .before .before .before .before .before .before .emptied-key .result) (c .before .before .before .before .before .before .emptied-key .ensures) (c .before .before .before .before .store-config-row .ensures) (c .before .before .store-otp-row .ensures) (c .store-data-row .ensures)
+    let otp = c .before .before in
+    let config = otp .before .before in
+    let emptying = config .before .before in
+    let image = now (emptying .before .before .args .image) in
+    device-law image (omega arith) (emptying .emptied-key .result) (emptying .emptied-key .ensures) (config .store-config-row .ensures) (otp .store-otp-row .ensures) (c .store-data-row .ensures)
 
 pub device-from-spec : {M : Type 1} → statement M
 device-from-spec =

@@ -11,13 +11,14 @@ use Rattle.rules.specs.declared.Device.{Device}
 use Rattle.rules.specs.declared.Fields.{Fields}
 use Rattle.rules.specs.declared.Slot.{Slot}
 use Rattle.rules.specs.declared.Word.{Word}
-use Rattle.rules.specs.Words.{_is_, _upTo_, bit, xorRow, onlyBits}
+use Rattle.rules.specs.Words.{_is_, _upTo_, bit, xorRow}
 use Rattle.rules.specs.State.{index, slotConfig, configLocked, valuesLocked, bothLocked, isSecret, encryptRead}
 use Rattle.rules.specs.Plan.{settle, gives}
 use Rattle.rules.specs.Address.{zone, size, word, slotOf, addressFits, position}
-use Rattle.rules.specs.Read.{read, readShape, readFree, readBytes, dataReadFree}
+use Rattle.rules.specs.Read.{read, readFree, readBytes, dataReadFree}
 use Rattle.rules.specs.Upkeep.{lock, lockFree, zoneOpen, ofValues}
 use Rattle.rules.proofs.Tests.{and-left, and-right}
+use Rattle.rules.proofs.Shapes.{read-fits}
 use Rattle.rules.proofs.Settle.{settle-eq}
 use Rattle.demands.proofs.Beside.{Beside, withData, slot-same, part-same}
 
@@ -60,10 +61,10 @@ module _ (k : Slot) (d : Device) (y : List ℕ) (w : Beside k (d .«data») y) w
 
   pub read-same : (f : Fields) (input : List ℕ) → isSecret (d .config) k ≡ true → encryptRead (d .config) k ≡ false
       → settle (read d f input) ≡ settle (read (withData y d) f input)
-  unfolding read readShape readFree dataReadFree
+  unfolding read readFree dataReadFree
   read-same f input s n =
       settle-eq (read d f input) (read (withData y d) f input) refl refl
-      (λ a b. ap gives (bytes-same f s n (and-right (onlyBits _ (f .param1)) (addressFits f) (and-left _ _ a)) b))
+      (λ a b. ap gives (bytes-same f s n (read-fits f input a) b))
 
 -- ---- Lock
 

@@ -2,21 +2,21 @@
 -- while it is unlocked, and the 00 of a Lock of a zone that is open. What holds of all such stores holds of every store of a command.
 use Prim.Native.Nat.{ℕ, zero, suc, _+_, _*_, _%_, _≤_, _<_}
 use mathlib.Core.Path.{_≡_}
-use mathlib.Core.Bool.{Bool, true, false, not, _&&_, _||_, false≢true}
+use mathlib.Core.Bool.{Bool, true, false, not, _&&_, false≢true}
 use mathlib.Core.List.{List, [], _∷_, _++_}
 use native.Mathlib.Omega.{arith}
-use borrow.Author.Tests.{eqb-true, leb-true, ltb-true, not-true}
+use borrow.Author.Tests.{leb-true, ltb-true, not-true}
 use lib.ListN.{length}
 use Rattle.wire.specs.Wire.{if_then_else_}
 use Rattle.wire.proofs.Cases.{if-all, if-either}
 use Rattle.rules.specs.declared.Device.{Device}
 use Rattle.rules.specs.declared.Fields.{Fields}
 use Rattle.rules.specs.declared.Slot.{Slot}
-use Rattle.rules.specs.Words.{_⇒_, _is_, _under_, _upTo_, bit, byte, bytes, equal, onlyBits}
+use Rattle.rules.specs.Words.{_⇒_, _is_, _under_, _upTo_, bit, byte, bytes, equal}
 use Rattle.rules.specs.State.{index, key, configLocked}
 use Rattle.rules.specs.Plan.{Store, inConfig, inOtp, inData, upwards, Plan}
 use Rattle.rules.specs.Uses.{limited, firstNonzero, useAt, spend}
-use Rattle.rules.specs.Address.{zone, size, position, addressFits}
+use Rattle.rules.specs.Address.{zone, size, position}
 use Rattle.rules.specs.Commands.{Command, aRead, aMac, aWrite, aGenDig, aNonce, aLock, aRandom, aDeriveKey, anUpdateExtra, aCheckMac, aDevRev, unknown, ruleOf, commandOf}
 use Rattle.rules.specs.Events.{planFor, opcodeOf, fieldsOf, inputOf}
 use Rattle.rules.specs.Nonce.{nonce, random, nonceInput, nonceRandom}
@@ -27,7 +27,8 @@ use Rattle.rules.specs.DeriveKey.{deriveKey, deriveKeyStores, deriveKeyMac, der
 use Rattle.rules.specs.Read.{read}
 use Rattle.rules.specs.Write.{write, writeShape, writeFree, configWriteFree, hasMac, writeEffect, writeMac, written, encrypted, otpWritten, plain}
 use Rattle.rules.specs.Upkeep.{lock, lockFree, zoneOpen, updateExtra, devRev}
-use Rattle.rules.proofs.Tests.{and-left, and-right, or-first}
+use Rattle.rules.proofs.Tests.{and-left, and-right}
+use Rattle.rules.proofs.Shapes.{size-clear}
 use Rattle.rules.proofs.Uses.{use-within}
 use Rattle.rules.proofs.Settle.{settle-all}
 
@@ -59,14 +60,9 @@ use-above config k =
     if-either (λ (m : ℕ). 52 ≤ m) (index k is 15) (omega arith) (omega arith)
 
 -- bytes written to the configuration end before its byte 84
-size-fits : (wide : Bool) (n p : ℕ) → (if wide then n is 32 || n is 64 else n is 4) ≡ true → n is 64 ≡ false
-    → p + (if wide then 32 else 4) ≤ 84 → p + n ≤ 84
-size-fits true n p s m h = let e = eqb-true n 32 (or-first (n is 32) (n is 64) s m) in omega arith
-size-fits false n p s m h = let e = eqb-true n 4 s in omega arith
-
 module _ (d : Device) (f : Fields) (input : List ℕ) (shape : writeShape f input ≡ true) (free : writeFree d f input ≡ true) (z : zone f is 0 ≡ true) where
   unlocked-fits : (configLocked (d .config) ≡ false) × (position f + length input ≤ 84)
-  unfolding writeShape writeFree configWriteFree
+  unfolding writeFree configWriteFree
   unlocked-fits =
       let no-lock : Bool = not (configLocked (d .config)) in
       let clear : Bool = no-lock && not (bit 6 (f .param1)) in
@@ -76,10 +72,7 @@ module _ (d : Device) (f : Fields) (input : List ℕ) (shape : writeShape f inpu
       let bare-true : bare ≡ true = and-left bare (16 upTo position f) (and-left above _ all) in
       let unlocked : no-lock ≡ true = and-left no-lock _ (and-left clear _ bare-true) in (
         not-true (configLocked (d .config)) unlocked,
-        size-fits (bit 7 (f .param1)) (length input) (position f)
-            (and-right (onlyBits (7 ∷ 6 ∷ 1 ∷ 0 ∷ []) (f .param1) && addressFits f) _ shape)
-            (not-true (hasMac input) (and-right clear _ bare-true))
-            (leb-true (position f + size f) 84 (and-right above _ all)),
+        omega (arith, size-clear f input shape (not-true (hasMac input) (and-right clear _ bare-true)), leb-true (position f + size f) 84 (and-right above _ all)),
       )
 
 -- ---- rows, uses, a key that is rolled, a write

@@ -2,14 +2,14 @@
 use Prim.Native.Nat.{ℕ}
 use mathlib.Core.Path.{_≡_, refl, ap}
 use mathlib.Core.Bool.{Bool, true, false, not, _&&_, and-false, false≢true, true≢false}
-use mathlib.Core.List.{List, [], _∷_}
+use mathlib.Core.List.{List}
 use borrow.Author.Tests.{eqb-true}
 use Rattle.wire.specs.Wire.{if_then_else_}
 use Rattle.wire.proofs.Cases.{if-all, if-same}
 use Rattle.rules.specs.declared.Device.{Device}
 use Rattle.rules.specs.declared.Fields.{Fields}
 use Rattle.rules.specs.declared.TempKey.{TempKey}
-use Rattle.rules.specs.Words.{_iff_, _is_, bit, onlyBits}
+use Rattle.rules.specs.Words.{_iff_, _is_, bit}
 use Rattle.rules.specs.State.{slotBytes, configLocked, valuesLocked, isSecret}
 use Rattle.rules.specs.Plan.{Plan, withTempKey, gives, settle}
 use Rattle.rules.specs.Address.{zone, word, slotOf, addressFits, encrypts}
@@ -23,6 +23,7 @@ use Rattle.rules.specs.Nonce.{nonce, random}
 use Rattle.rules.specs.Upkeep.{lock, lockFree, summary, updateExtra, devRev}
 use Rattle.rules.specs.Commands.{Command, aRead, aMac, aWrite, aGenDig, aNonce, aLock, aRandom, aDeriveKey, anUpdateExtra, aCheckMac, aDevRev, unknown, ruleOf, planOf}
 use Rattle.rules.proofs.Tests.{and-left, and-right, or-left, or-right}
+use Rattle.rules.proofs.Shapes.{read-fits, write-fits}
 use Rattle.demands.specs.Incident.{needsTempKey}
 
 -- a TempKey that is not Valid
@@ -96,9 +97,6 @@ shape-same : (shape : Bool) (a b : Bool) (p q : Plan) → (shape ≡ true → a 
 shape-same true a b p q e k = rw (e refl, k refl)
 shape-same false a b p q e k = refl
 
-and-middle : (a b c : Bool) → (a && b && c) ≡ true → b ≡ true
-and-middle a b c h = and-right a b (and-left (a && b) c h)
-
 -- an address in its shape that is neither of configuration nor of OTP is of data
 data-zone : (f : Fields) → addressFits f ≡ true → zone f is 0 ≡ false → zone f is 1 ≡ false → zone f is 2 ≡ true
 unfolding addressFits
@@ -138,14 +136,11 @@ module _ (d : Device) (t : TempKey) (f : Fields) where
     read-bytes-same h = if-same (zone f is 0) (λ _. refl) (λ z. if-same (zone f is 1) (λ _. refl) (λ o. rw (clear h z o)))
 
     read-same : settle (read e f input) ≡ settle (read d f input)
-    unfolding read readShape
+    unfolding read
     read-same =
         shape-same (readShape f input) (readFree e f) (readFree d f) (gives (readBytes e f)) (gives (readBytes d f))
-        (λ s. read-free-same (fits s))
-        (λ s. ap gives (read-bytes-same (fits s)))
-      where
-        fits : readShape f input ≡ true → addressFits f ≡ true
-        fits s = and-middle (onlyBits (7 ∷ 1 ∷ 0 ∷ []) (f .param1)) (addressFits f) _ s
+        (λ s. read-free-same (read-fits f input s))
+        (λ s. ap gives (read-bytes-same (read-fits f input s)))
 
   -- a write that is not encrypted
   module _ (input : List ℕ) (u : encrypted (d .config) f ≡ false) where
@@ -168,14 +163,11 @@ module _ (d : Device) (t : TempKey) (f : Fields) where
         (if-same (valuesLocked (d .config)) (locked-same h z) (unlocked-same z)))
 
     write-same : settle (write e f input) ≡ settle (write d f input)
-    unfolding write writeShape writeEffect written otpWritten
+    unfolding write writeEffect written otpWritten
     write-same =
         shape-same (writeShape f input) (writeFree e f input) (writeFree d f input) (writeEffect e f input) (writeEffect d f input)
-        (λ s. write-free-same (fits s))
+        (λ s. write-free-same (write-fits f input s))
         (λ s. rw u)
-      where
-        fits : writeShape f input ≡ true → addressFits f ≡ true
-        fits s = and-middle (onlyBits (7 ∷ 6 ∷ 1 ∷ 0 ∷ []) (f .param1)) (addressFits f) _ s
 
 pub others-same : (c : Command) (d : Device) (t : TempKey) (f : Fields) (input supplied : List ℕ) → needsTempKey c d f ≡ false
     → planOf c (withTempKey t d) f input supplied ≡ planOf c d f input supplied

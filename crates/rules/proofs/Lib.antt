@@ -4,5 +4,6 @@ pub mod Masks
 pub mod Rows
 pub mod Uses
 pub mod Stores
+pub mod Shapes
 pub mod Settle
 pub mod Answers

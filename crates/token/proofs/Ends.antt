@@ -1,7 +1,7 @@
 -- The three ends of an event: its buffers refused, no answer, an answer.
 use Prim.Native.Nat.{ℕ, _+_, _≤_}
 use mathlib.Core.Path.{_≡_, refl, sym, _∙_}
-use mathlib.Core.Bool.{Bool, true, false, not, _&&_, true≢false}
+use mathlib.Core.Bool.{Bool, true, false, not, true≢false}
 use mathlib.Core.List.{List, [], _++_}
 use borrow.Author.Tests.{le-ltb, le-leb, leb-true, ltb-false, eq-eqb, eqb-true, not-true, not-false}
 use lib.ListN.{length, drop}

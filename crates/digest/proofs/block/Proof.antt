@@ -44,24 +44,24 @@ loop-less c = search needs
 
 loop-again : tie.Need-loop-again Inv-loop μ-loop
 loop-again c =
-    let a = c .before .before .before .before in
-    let m = now (a .args .m) in
-    let i = a .args .i in
-    let p = c .before .before .loop in
-    let h : p .j < 16 = c .before .loop-test .taken in (
+    let start = c .before .before .before .before in
+    let m = now (start .args .m) in
+    let i = start .args .i in
+    let turn = c .before .before .loop in
+    let h : turn .j < 16 = c .before .loop-test .taken in (
       omega arith,
       search needs,
-      take-more (block (words (pad m)) i) (p .b) (p .j) (omega (arith, block-long m i (a .pre))) (omega arith)
-          (c .word-at .ensures ∙ sym (block-at m i (a .pre) (p .j) h)) (p .inv .2),
+      take-more (block (words (pad m)) i) (turn .b) (turn .j) (omega (arith, block-long m i (start .pre))) (omega arith)
+          (c .word-at .ensures ∙ sym (block-at m i (start .pre) (turn .j) h)) (turn .inv .2),
     )
 
 returns : tie.Need-returns Inv-loop μ-loop
 returns c =
-    let a = c .before .before .before in
-    let m = now (a .args .m) in
-    let i = a .args .i in
-    let p = c .before .loop in
-    sym (take-all 16 (p .b) (omega arith)) ∙ take-done (block (words (pad m)) i) (p .b) (p .j) 16 (omega arith) (block-long m i (a .pre)) (p .inv .2)
+    let start = c .before .before .before in
+    let m = now (start .args .m) in
+    let i = start .args .i in
+    let turn = c .before .loop in
+    sym (take-all 16 (turn .b) (omega arith)) ∙ take-done (block (words (pad m)) i) (turn .b) (turn .j) 16 (omega arith) (block-long m i (start .pre)) (turn .inv .2)
 
 pub block-spec : {M : Type 1} → statement M
 block-spec =

@@ -42,16 +42,18 @@ loop-less c = search needs
 
 loop-again : tie.Need-loop-again Inv-loop μ-loop
 loop-again c =
-    let p = c .before .before .before .loop in
-    (omega arith, hash-more (words (pad (now (c .before .before .before .before .before .before .args .m)))) (p .i) (c .before .block .ensures) (c .compress .ensures) (p .inv .1))
+    let turn = c .before .before .before in
+    let m = now (turn .before .before .before .args .m) in
+    (omega arith, hash-more (words (pad m)) (turn .loop .i) (c .before .block .ensures) (c .compress .ensures) (turn .loop .inv .1))
 
 output-requires : tie.Need-output-requires Inv-loop μ-loop
 output-requires c κs = search needs
 
 returns : tie.Need-returns Inv-loop μ-loop
 returns c =
-    let p = c .before .before .loop in
-    hash-done (now (c .before .before .before .before .before .args .m)) (p .i) (omega arith) (p .inv .1) (c .output .ensures)
+    let turn = c .before .before in
+    let m = now (turn .before .before .before .args .m) in
+    hash-done m (turn .loop .i) (omega arith) (turn .loop .inv .1) (c .output .ensures)
 
 pub digest-spec : {M : Type 1} → statement M
 digest-spec =

@@ -37,13 +37,13 @@ loop-less c = search needs
 
 loop-again : tie.Need-loop-again Inv-loop μ-loop
 loop-again c =
-    let p = c .before .loop in
-    (omega arith, search needs, take-more (c .before .before .args .t1) (p .w) (p .t) (search needs) (omega arith) refl (p .inv .2))
+    let turn = c .before .loop in
+    (omega arith, search needs, take-more (c .before .before .args .t1) (turn .w) (turn .t) (search needs) (omega arith) refl (turn .inv .2))
 
 returns : tie.Need-returns Inv-loop μ-loop
 returns c =
-    let p = c .before .loop in
-    take-done (c .before .before .args .t1) (p .w) (p .t) 16 (omega arith) (search needs) (p .inv .2)
+    let turn = c .before .loop in
+    take-done (c .before .before .args .t1) (turn .w) (turn .t) 16 (omega arith) (search needs) (turn .inv .2)
 
 pub first-words-spec : {M : Type 1} → statement M
 first-words-spec =

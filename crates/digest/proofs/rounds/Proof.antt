@@ -60,15 +60,15 @@ loop-less c = search needs
 
 loop-again : tie.Need-loop-again Inv-loop μ-loop
 loop-again c =
-    let a = c .before .before .before .before .before .before .before .args in
-    let p = c .before .before .before .before .loop in
-    (omega arith, omega arith, rounds-more (now (a .k)) (now (a .w)) (p .t) (p .s) (omega arith) (omega arith) (c .eight-rounds .ensures) (p .inv .2))
+    let turn = c .before .before .before .before in
+    let a = turn .before .before .before .args in
+    (omega arith, omega arith, rounds-more (now (a .k)) (now (a .w)) (turn .loop .t) (turn .loop .s) (omega arith) (omega arith) (c .eight-rounds .ensures) (turn .loop .inv .2))
 
 returns : tie.Need-returns Inv-loop μ-loop
 returns c =
-    let a = c .before .before .before .before .args in
-    let p = c .before .loop in
-    rounds-done (now (a .k)) (now (a .w)) (p .t) (p .s) (omega arith) (p .inv .2)
+    let turn = c .before in
+    let a = turn .before .before .before .args in
+    rounds-done (now (a .k)) (now (a .w)) (turn .loop .t) (turn .loop .s) (omega arith) (turn .loop .inv .2)
 
 pub rounds-spec : {M : Type 1} → statement M
 rounds-spec =

@@ -76,14 +76,14 @@ loop-less c = search needs
 loop-again : tie.Need-loop-again Inv-loop μ-loop
 unfolding next
 loop-again c =
-    let p = c .before .before .loop in
+    let turn = c .before .before .loop in
     let b = take 16 (c .before .before .before .first-words .result) in
-    (omega arith, omega arith, search needs, schedule-more (p .w) b (p .t) (omega arith) (omega arith) (c .next .ensures) (p .inv .3))
+    (omega arith, omega arith, search needs, schedule-more (turn .w) b (turn .t) (omega arith) (omega arith) (c .next .ensures) (turn .inv .3))
 
 returns : tie.Need-returns Inv-loop μ-loop
 returns c =
-    let p = c .before .loop in
-    schedule-done (p .w) (take 16 (c .before .before .first-words .result)) (p .t) (omega arith) (omega arith) (c .before .before .first-words .ensures) (p .inv .3)
+    let turn = c .before .loop in
+    schedule-done (turn .w) (take 16 (c .before .before .first-words .result)) (turn .t) (omega arith) (omega arith) (c .before .before .first-words .ensures) (turn .inv .3)
 
 pub schedule-spec : {M : Type 1} → statement M
 schedule-spec =

@@ -38,8 +38,9 @@ word-requires c κs = search needs
 
 returns : tie.Need-returns
 returns c =
-    let a = c .before .before .before .before .before .before .before in
-    word-in (now (a .args .m)) (a .args .j) (a .pre) (c .before .before .before .before .before .if1 .taken) (c .word .ensures)
+    let test = c .before .before .before .before .before in
+    let start = test .before .before in
+    word-in (now (start .args .m)) (start .args .j) (start .pre) (test .if1 .taken) (c .word .ensures)
 
 byte-at-requires : tie.Need-byte-at-requires
 byte-at-requires c κs = search needs
@@ -67,9 +68,9 @@ word-requires-2 c κs = search needs
 
 returns-2 : tie.Need-returns-2
 returns-2 c =
-    let b = c .before .before .before .before in
-    let a = b .before .before .before .before in
-    word-law (now (a .args .m)) (a .args .j) (a .pre) (b .byte-at .ensures) (c .before .before .before .byte-at2 .ensures) (c .before .before .byte-at3 .ensures)
+    let first = c .before .before .before .before in
+    let start = first .before .before .before .before in
+    word-law (now (start .args .m)) (start .args .j) (start .pre) (first .byte-at .ensures) (c .before .before .before .byte-at2 .ensures) (c .before .before .byte-at3 .ensures)
     (c .before .byte-at4 .ensures) (c .word2 .ensures)
 
 add-end : tie.Need-add-end
@@ -83,16 +84,16 @@ add-end-2 c = search needs
 
 returns-3 : tie.Need-returns-3
 returns-3 c =
-    let a = c .before .before .before .before in
-    word-zero (now (a .args .m)) (a .args .j) (a .pre) (omega arith) (c .if3 .taken)
+    let start = c .before .before .before .before in
+    word-zero (now (start .args .m)) (start .args .j) (start .pre) (omega arith) (c .if3 .taken)
 
 cast-result : tie.Need-cast-result
 cast-result c = search needs
 
 returns-4 : tie.Need-returns-4
 returns-4 c =
-    let a = c .before .before .before .before .before in
-    word-high (now (a .args .m)) (a .args .j) (a .pre) (c .if4 .taken)
+    let start = c .before .before .before .before .before in
+    word-high (now (start .args .m)) (start .args .j) (start .pre) (c .if4 .taken)
 
 mul-result : tie.Need-mul-result
 mul-result c = search needs
@@ -102,8 +103,8 @@ cast-result-2 c = search needs
 
 returns-5 : tie.Need-returns-5
 returns-5 c =
-    let a = c .before .before .before .before .before in
-    word-low (now (a .args .m)) (a .args .j) (a .pre) (omega arith)
+    let start = c .before .before .before .before .before in
+    word-low (now (start .args .m)) (start .args .j) (start .pre) (omega arith)
 
 pub word-at-spec : {M : Type 1} → statement M
 word-at-spec =

@@ -39,9 +39,9 @@ loop-less c = omega arith
 
 loop-again : tie.Need-loop-again Inv-loop μ-loop
 loop-again c =
-    let p = c .before .before in
-    let a = p .before .args in
-    let i = p .loop .i in
+    let turn = c .before .before in
+    let a = turn .before .args in
+    let i = turn .loop .i in
     let s = drop (a .at) (now (a .s)) in
     let h : length (a .m) ≡ 96 = search needs in
     let l : i < length s = simp length-drop (omega arith) in

@@ -33,12 +33,12 @@ add-requires-4 c κs = search needs
 
 returns : tie.Need-returns
 returns c =
-    let p = c .before .before .before .before in
-    let a = p .before .before .before .before .args in
+    let header = c .before .before .before .before in
+    let a = header .before .before .before .before .args in
     let l : length (a .t1) ≡ 32 = search needs in
     let k : length (a .t2) ≡ 4 = search needs in
     c .add4 .ensures
-    ∙ rw (c .before .before .add3 .ensures, p .add2 .ensures, p .before .before .add .ensures, take-all 32 (a .t1) (omega arith), take-all 4 (a .t2) (omega arith))
+    ∙ rw (c .before .before .add3 .ensures, header .add2 .ensures, header .before .before .add .ensures, take-all 32 (a .t1) (omega arith), take-all 4 (a .t2) (omega arith))
 
 pub layout39-spec : {M : Type 1} → statement M
 layout39-spec =

@@ -32,12 +32,12 @@ digest-requires c κs = search needs
 returns : tie.Need-returns
 unfolding layout96
 returns c =
-    let p = c .before .before .before .before in
+    let padding = c .before .before .before .before in
     let r = c .before .before .add2 .result in
-    let a = p .before .before .before .args in
+    let a = padding .before .before .before .args in
     let l : length (a .t4) ≡ 32 = search needs in
     let m : length r ≡ 96 = search needs in
-    rw (c .digest .ensures, ← take-all 96 r (omega arith), c .before .before .add2 .ensures, p .add .ensures, p .before .before .layout39 .ensures, take-all 32 (a .t4) (omega arith))
+    rw (c .digest .ensures, ← take-all 96 r (omega arith), c .before .before .add2 .ensures, padding .add .ensures, padding .before .before .layout39 .ensures, take-all 32 (a .t4) (omega arith))
 
 pub layout96-digest-spec : {M : Type 1} → statement M
 layout96-digest-spec =

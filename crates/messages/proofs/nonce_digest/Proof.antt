@@ -44,12 +44,12 @@ digest-requires c κs = search needs
 returns : tie.Need-returns
 unfolding nonceMessage
 returns c =
-    let p = c .before .before .before in
-    let q = p .before .before .before in
-    let s = q .before .before .before .before in
-    let a = s .args in
-    let l : length (a .t1) ≡ 32 = search (needs, s .good) in
-    rw (c .digest .ensures, p .add3 .ensures, q .add2 .ensures, q .before .before .add .ensures, take-all 32 (a .t1) (omega arith))
+    let header = c .before .before .before in
+    let input = header .before .before .before in
+    let start = input .before .before .before .before in
+    let a = start .args in
+    let l : length (a .t1) ≡ 32 = search (needs, start .good) in
+    rw (c .digest .ensures, header .add3 .ensures, input .add2 .ensures, input .before .before .add .ensures, take-all 32 (a .t1) (omega arith))
 
 pub nonce-digest-spec : {M : Type 1} → statement M
 nonce-digest-spec =

@@ -36,9 +36,9 @@ add-requires-5 c κs = search needs
 
 returns : tie.Need-returns
 returns c =
-    let p = c .before .before .before .before in
+    let third = c .before .before .before .before in
     c .add5 .ensures
-    ∙ rw (c .before .before .add4 .ensures, p .add3 .ensures, p .before .before .add2 .ensures, p .before .before .before .before .add .ensures)
+    ∙ rw (c .before .before .add4 .ensures, third .add3 .ensures, third .before .before .add2 .ensures, third .before .before .before .before .add .ensures)
 
 pub other-fields-spec : {M : Type 1} → statement M
 other-fields-spec =

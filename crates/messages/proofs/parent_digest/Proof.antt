@@ -25,8 +25,8 @@ digest-requires c κs = search needs
 returns : tie.Need-returns
 unfolding parentMessage
 returns c =
-    let p = c .before .before .before in
-    rw (c .digest .ensures, p .layout39 .ensures, p .before .header-of .ensures)
+    let layout = c .before .before .before in
+    rw (c .digest .ensures, layout .layout39 .ensures, layout .before .header-of .ensures)
 
 pub parent-digest-spec : {M : Type 1} → statement M
 parent-digest-spec =

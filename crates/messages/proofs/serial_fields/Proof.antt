@@ -30,8 +30,8 @@ add-if-requires-2 c κs = search needs
 
 returns : tie.Need-returns
 returns c =
-    let p = c .before .before .before .before in
-    c .add-if2 .ensures ∙ rw (c .before .before .add2 .ensures, p .add-if .ensures, p .before .before .add .ensures)
+    let second = c .before .before .before .before in
+    c .add-if2 .ensures ∙ rw (c .before .before .add2 .ensures, second .add-if .ensures, second .before .before .add .ensures)
 
 pub serial-fields-spec : {M : Type 1} → statement M
 serial-fields-spec =

@@ -31,10 +31,10 @@ shared-slice-read-if2-2 c = omega arith
 
 returns-2 : tie.Need-returns-2 Inv-loop μ-loop
 returns-2 c =
-    let p = c .before .before .before .before in
-    let a = p .before .before .args in
-    let i = p .loop .i in
-    sym (rw (equal-step (now (a .a)) (now (a .b)) i (omega arith) (omega arith), ne-eqb _ _ (c .if2 .taken)) at (sym (p .loop .inv .1)))
+    let turn = c .before .before .before .before in
+    let a = turn .before .before .args in
+    let i = turn .loop .i in
+    sym (rw (equal-step (now (a .a)) (now (a .b)) i (omega arith) (omega arith), ne-eqb _ _ (c .if2 .taken)) at (sym (turn .loop .inv .1)))
 
 add-i : tie.Need-add-i Inv-loop μ-loop
 add-i c = omega arith
@@ -44,10 +44,10 @@ loop-less c = omega arith
 
 loop-again : tie.Need-loop-again Inv-loop μ-loop
 loop-again c =
-    let p = c .before .before .before .before in
-    let a = p .before .before .args in
-    let i = p .loop .i in
-    (omega arith, rw (equal-step (now (a .a)) (now (a .b)) i (omega arith) (omega arith), eq-eqb _ _ (c .if2 .left)) at (p .loop .inv .1))
+    let turn = c .before .before .before .before in
+    let a = turn .before .before .args in
+    let i = turn .loop .i in
+    (omega arith, rw (equal-step (now (a .a)) (now (a .b)) i (omega arith) (omega arith), eq-eqb _ _ (c .if2 .left)) at (turn .loop .inv .1))
 
 returns-3 : tie.Need-returns-3 Inv-loop μ-loop
 returns-3 c =

@@ -47,15 +47,15 @@ loop-less c = omega arith
 
 loop-again : tie.Need-loop-again Inv-loop μ-loop
 loop-again c =
-    let p = c .before .before in
-    let a = p .before .before .before .before .args in
-    (p .loop .inv .0, (omega arith, cc (row-more (zeros 32) (now (a .s)) (a .at) (p .loop .i) (omega arith) (omega arith))))
+    let turn = c .before .before in
+    let a = turn .before .before .before .before .args in
+    (turn .loop .inv .0, (omega arith, cc (row-more (zeros 32) (now (a .s)) (a .at) (turn .loop .i) (omega arith) (omega arith))))
 
 returns : tie.Need-returns Inv-loop μ-loop
 returns c =
-    let p = c .before in
-    let a = p .before .before .before .before .args in
-    p .loop .inv .1 .1 ∙ row-copied (now (a .s)) (a .at) (a .n) (p .loop .i) (omega arith)
+    let turn = c .before in
+    let a = turn .before .before .before .before .args in
+    turn .loop .inv .1 .1 ∙ row-copied (now (a .s)) (a .at) (a .n) (turn .loop .i) (omega arith)
 
 pub row-of-spec : {M : Type 1} → statement M
 row-of-spec =

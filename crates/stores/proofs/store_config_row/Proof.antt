@@ -45,15 +45,15 @@ loop-less c = omega arith
 
 loop-again : tie.Need-loop-again Inv-loop μ-loop
 loop-again c =
-    let p = c .before .before in
-    let a = p .before .before .before .args in
-    (p .loop .inv .0, (omega arith, (simp length-set (p .loop .inv .1 .1 .0), sym (stored-more configZone (p .loop .next) (a .at) (now (a .row)) (p .loop .i) (omega arith)) ∙ p .loop .inv .1 .1 .1)))
+    let turn = c .before .before in
+    let a = turn .before .before .before .args in
+    (turn .loop .inv .0, (omega arith, (simp length-set (turn .loop .inv .1 .1 .0), sym (stored-more configZone (turn .loop .next) (a .at) (now (a .row)) (turn .loop .i) (omega arith)) ∙ turn .loop .inv .1 .1 .1)))
 
 returns : tie.Need-returns Inv-loop μ-loop
 returns c =
-    let p = c .before in
-    let a = p .before .before .before .args in
-    sym (stored-end configZone (p .loop .next) (a .at) (now (a .row)) (p .loop .i) (omega arith)) ∙ p .loop .inv .1 .1 .1
+    let turn = c .before in
+    let a = turn .before .before .before .args in
+    sym (stored-end configZone (turn .loop .next) (a .at) (now (a .row)) (turn .loop .i) (omega arith)) ∙ turn .loop .inv .1 .1 .1
 
 pub store-config-row-spec : {M : Type 1} → statement M
 store-config-row-spec =

@@ -27,9 +27,9 @@ said-requires c κs = search needs
 returns : tie.Need-returns
 unfolding devRev
 returns c =
-    let p = c .before .before .before .before in
-    let config = p .before .before .before .args .d .config in
-    let shape = sym (p .before .dev-rev-shape .ensures) ∙ p .if1 .taken in
+    let test = c .before .before .before .before in
+    let config = test .before .before .before .args .d .config in
+    let shape = sym (test .before .dev-rev-shape .ensures) ∙ test .if1 .taken in
     let h : length config ≡ 88 = search needs in
     let four = length-part config 4 4 (omega arith) in
     rw (shape, four, c .ended .ensures, c .before .row-of .ensures, row-there config 4 4 (omega arith) (omega arith))

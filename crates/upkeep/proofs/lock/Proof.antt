@@ -32,30 +32,30 @@ said-requires-4 c κs = search needs
 returns : tie.Need-returns
 unfolding lock lockFree
 returns c =
-    let q = c .before .before .before .before in
-    let p = q .before .before in
-    let shape = sym (p .before .lock-shape .ensures) ∙ p .if1 .taken in
-    let free = sym (q .before .zone-open .ensures) ∙ q .if2 .taken in
+    let second = c .before .before .before .before in
+    let first = second .before .before in
+    let shape = sym (first .before .lock-shape .ensures) ∙ first .if1 .taken in
+    let free = sym (second .before .zone-open .ensures) ∙ second .if2 .taken in
     let right = sym (c .before .before .summary-right .ensures) ∙ c .before .if3 .taken in
     rw (shape, free, right, c .said .ensures, c .before .before .before .locked .ensures)
 
 returns-2 : tie.Need-returns-2
 unfolding lock lockFree
 returns-2 c =
-    let q = c .before .before .before .before in
-    let p = q .before .before in
-    let shape = sym (p .before .lock-shape .ensures) ∙ p .if1 .taken in
-    let free = sym (q .before .zone-open .ensures) ∙ q .if2 .taken in
+    let second = c .before .before .before .before in
+    let first = second .before .before in
+    let shape = sym (first .before .lock-shape .ensures) ∙ first .if1 .taken in
+    let free = sym (second .before .zone-open .ensures) ∙ second .if2 .taken in
     let wrong = sym (c .before .before .summary-right .ensures) ∙ c .before .if3 .left in
     rw (shape, free, wrong) (c .said2 .ensures)
 
 returns-3 : tie.Need-returns-3
 unfolding lock lockFree
 returns-3 c =
-    let q = c .before in
-    let p = q .before .before in
-    let shape = sym (p .before .lock-shape .ensures) ∙ p .if1 .taken in
-    let shut = sym (q .before .zone-open .ensures) ∙ q .if2 .left in
+    let second = c .before in
+    let first = second .before .before in
+    let shape = sym (first .before .lock-shape .ensures) ∙ first .if1 .taken in
+    let shut = sym (second .before .zone-open .ensures) ∙ second .if2 .left in
     rw (shape, shut) (c .said3 .ensures)
 
 returns-4 : tie.Need-returns-4

@@ -15,15 +15,15 @@ param2-fits-requires c κs = search needs
 returns : tie.Need-returns
 unfolding lockShape
 returns c =
-    let p = c .before .before in
-    let bits = sym (lock-mask (p .before .before .before .args .f .param1) (search needs)) ∙ sym (p .before .only-bits .ensures) ∙ p .if1 .taken in
+    let first = c .before .before in
+    let bits = sym (lock-mask (first .before .before .before .args .f .param1) (search needs)) ∙ sym (first .before .only-bits .ensures) ∙ first .if1 .taken in
     rw (bits, sym (c .before .param2-fits .ensures) ∙ c .if2 .taken)
 
 returns-2 : tie.Need-returns-2
 unfolding lockShape
 returns-2 c =
-    let p = c .before .before in
-    let bits = sym (lock-mask (p .before .before .before .args .f .param1) (search needs)) ∙ sym (p .before .only-bits .ensures) ∙ p .if1 .taken in
+    let first = c .before .before in
+    let bits = sym (lock-mask (first .before .before .before .args .f .param1) (search needs)) ∙ sym (first .before .only-bits .ensures) ∙ first .if1 .taken in
     rw (bits, sym (c .before .param2-fits .ensures) ∙ c .if2 .left)
 
 returns-3 : tie.Need-returns-3

@@ -29,8 +29,9 @@ check-value-requires-3 c κs = search needs
 returns : tie.Need-returns
 unfolding summary checkValue
 returns c =
-    let values = eq-eqb _ _ (c .before .before .before .before .before .before .if1 .taken) in
-    rw (values, check-append) (c .check-value2 .ensures ∙ rw (c .before .before .check-value .ensures))
+    let data-value = c .before .before in
+    let test = data-value .before .before .before .before in
+    rw (eq-eqb _ _ (test .if1 .taken), check-append) (c .check-value2 .ensures ∙ rw (data-value .check-value .ensures))
 
 returns-2 : tie.Need-returns-2
 unfolding summary checkValue

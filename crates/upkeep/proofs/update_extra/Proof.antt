@@ -26,19 +26,19 @@ said-requires-3 c κs = search needs
 returns : tie.Need-returns
 unfolding updateExtra
 returns c =
-    let q = c .before .before in
-    let p = q .before .before in
-    let shape = sym (p .before .update-extra-shape .ensures) ∙ p .if1 .taken in
-    let free = sym (q .before .update-extra-free .ensures) ∙ q .if2 .taken in
+    let second = c .before .before in
+    let first = second .before .before in
+    let shape = sym (first .before .update-extra-shape .ensures) ∙ first .if1 .taken in
+    let free = sym (second .before .update-extra-free .ensures) ∙ second .if2 .taken in
     rw (shape, free, c .said .ensures, c .before .updated .ensures)
 
 returns-2 : tie.Need-returns-2
 unfolding updateExtra
 returns-2 c =
-    let q = c .before in
-    let p = q .before .before in
-    let shape = sym (p .before .update-extra-shape .ensures) ∙ p .if1 .taken in
-    let free = sym (q .before .update-extra-free .ensures) ∙ q .if2 .left in
+    let second = c .before in
+    let first = second .before .before in
+    let shape = sym (first .before .update-extra-shape .ensures) ∙ first .if1 .taken in
+    let free = sym (second .before .update-extra-free .ensures) ∙ second .if2 .left in
     rw (shape, free) (c .said2 .ensures)
 
 returns-3 : tie.Need-returns-3

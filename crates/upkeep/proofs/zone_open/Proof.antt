@@ -22,9 +22,9 @@ returns c = rw (eq-eqb _ _ (c .before .before .if1 .taken), sym (c .before .valu
 returns-2 : tie.Need-returns-2
 unfolding zoneOpen
 returns-2 c =
-    let p = c .before in
-    let unlocked = sym (p .before .values-locked .ensures) ∙ p .if2 .left in
-    rw (eq-eqb _ _ (p .before .before .if1 .taken), unlocked) (c .config-locked .ensures)
+    let second = c .before in
+    let unlocked = sym (second .before .values-locked .ensures) ∙ second .if2 .left in
+    rw (eq-eqb _ _ (second .before .before .if1 .taken), unlocked) (c .config-locked .ensures)
 
 returns-3 : tie.Need-returns-3
 unfolding zoneOpen

@@ -23,8 +23,8 @@ array-read-if1 c = omega arith
 
 returns : tie.Need-returns Inv-loop μ-loop
 returns c =
-    let l = c .before .before in
-    rw (first-step (l .before .args .t1) (l .loop .i) 83 (c .before .loop-test .taken), ne-eqb _ _ (c .if1 .taken)) at (l .loop .inv .1 .1)
+    let turn = c .before .before in
+    rw (first-step (turn .before .args .t1) (turn .loop .i) 83 (c .before .loop-test .taken), ne-eqb _ _ (c .if1 .taken)) at (turn .loop .inv .1 .1)
 
 add-i : tie.Need-add-i Inv-loop μ-loop
 add-i c = omega arith
@@ -34,8 +34,8 @@ loop-less c = omega arith
 
 loop-again : tie.Need-loop-again Inv-loop μ-loop
 loop-again c =
-    let l = c .before .before in
-    (omega arith, (omega arith, rw (first-step (l .before .args .t1) (l .loop .i) 83 (c .before .loop-test .taken), eq-eqb _ _ (c .if1 .left)) at (l .loop .inv .1 .1)))
+    let turn = c .before .before in
+    (omega arith, (omega arith, rw (first-step (turn .before .args .t1) (turn .loop .i) 83 (c .before .loop-test .taken), eq-eqb _ _ (c .if1 .left)) at (turn .loop .inv .1 .1)))
 
 returns-2 : tie.Need-returns-2 Inv-loop μ-loop
 unfolding firstNonzero

@@ -1,4 +1,4 @@
-// Write.
+// Write: what it stores, once its shape and its conditions (free.rt) hold.
 ghost use mathlib.Core.Path.{_≡_};
 ghost use mathlib.Core.Bool.{true};
 ghost use mathlib.Core.List.{[]};

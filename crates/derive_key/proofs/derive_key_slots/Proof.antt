@@ -28,8 +28,8 @@ returns : tie.Need-returns
 unfolding deriveKeySlots
 returns c =
     let p = c .before .before .before in
-    let q = p .before .before .before in
-    rw (← p .parent-drawn .ensures, c .before .before .if1 .taken, c .use-left .ensures, c .before .slot-bit2 .ensures, p .before .slot-bit .ensures, p .before .before .source-of .ensures, q .parent-of .ensures)
+    let source = p .before .before in
+    rw (← p .parent-drawn .ensures, c .before .before .if1 .taken, c .use-left .ensures, c .before .slot-bit2 .ensures, p .before .slot-bit .ensures, source .source-of .ensures, source .before .parent-of .ensures)
 
 returns-2 : tie.Need-returns-2
 unfolding deriveKeySlots

@@ -30,8 +30,11 @@ returns : tie.Need-returns
 unfolding deriveKeyStores
 returns c =
     let p = c .before .before in
-    let target = p .before .before .before in
-    rw (stored-behind, stored-behind, c .refill .ensures, c .before .store-slot .ensures, p .spend-use .ensures, p .before .parent-drawn .ensures, p .before .before .parent-of .ensures, target .new-target .ensures, target .before .key-of .ensures)
+    let parent = p .before .before in
+    let target = parent .before in
+    let spent = p .spend-use .ensures in
+    let drawn = p .before .parent-drawn .ensures in
+    rw (stored-behind, stored-behind, c .refill .ensures, c .before .store-slot .ensures, spent, drawn, parent .parent-of .ensures, target .new-target .ensures, target .before .key-of .ensures)
 
 pub derive-key-stores-spec : {M : Type 1} → statement M
 derive-key-stores-spec =

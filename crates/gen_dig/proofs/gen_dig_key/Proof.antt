@@ -27,8 +27,10 @@ check-only-key-requires c κs = search needs
 returns : tie.Need-returns
 unfolding genDigKey
 returns c =
-    let p = c .before .before .before .before in
-    rw (c .before .check-only-key .ensures, c .before .before .key-named .ensures, c .before .before .before .gen-dig-slot .ensures, p .layout96-digest .ensures, p .before .gen-dig-header .ensures, p .before .before .gen-dig-value .ensures)
+    let flag = c .before in
+    let slot = flag .before .before in
+    let p = slot .before in
+    rw (flag .check-only-key .ensures, flag .before .key-named .ensures, slot .gen-dig-slot .ensures, p .layout96-digest .ensures, p .before .gen-dig-header .ensures, p .before .before .gen-dig-value .ensures)
 
 pub gen-dig-key-spec : {M : Type 1} → statement M
 gen-dig-key-spec =

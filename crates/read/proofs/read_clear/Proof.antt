@@ -34,7 +34,8 @@ returns c =
     let n = size (s .args .f) in
     let fits = s .pre in
     let all : length (take n (drop at zone)) ≡ n = simp (length-take, length-drop) (omega arith) in
-    rw (all, c .ended .ensures, c .before .size-of2 .ensures, p .row-of .ensures, p .before .size-of .ensures, p .before .before .position-of .ensures, row-there zone at n (size-small (s .args .f)) fits)
+    let there = row-there zone at n (size-small (s .args .f)) fits in
+    rw (all, c .ended .ensures, c .before .size-of2 .ensures, p .row-of .ensures, p .before .size-of .ensures, p .before .before .position-of .ensures, there)
 
 pub read-clear-spec : {M : Type 1} → statement M
 read-clear-spec =

@@ -27,8 +27,8 @@ store-config-requires c κs = search needs
 returns : tie.Need-returns
 unfolding spend
 returns c =
-    let p = c .before .before in
-    rw (sym (p .before .before .is-limited .ensures) ∙ p .before .if1 .taken, c .store-config .ensures, c .before .clear-highest .ensures, p .use-at .ensures)
+    let finding = c .before .before in
+    rw (sym (finding .before .before .is-limited .ensures) ∙ finding .before .if1 .taken, c .store-config .ensures, c .before .clear-highest .ensures, finding .use-at .ensures)
 
 returns-2 : tie.Need-returns-2
 unfolding spend

@@ -3,7 +3,7 @@ use mathlib.Core.Path.{refl}
 use mathlib.Core.List.{zipWith}
 use lib.Count.{ones, leadingZeros}
 use Rattle.digest.specs.Sha256.{K, H0, pad, words, next, scheduleTo, round, rounds, plus, compress, hash, sha256}
-use Rattle.wire.specs.Wire.{bitIn, bitsIn, checkFrom, checkValue, lowFirst, counted, frame, lowFirstAt, whole}
+use Rattle.wire.specs.Wire.{bitIn, bitsIn, checkFrom, checkValue, counted, frame, lowFirstAt, whole}
 use Rattle.rules.specs.Words.{named, onlyBits, equal}
 use Rattle.rules.specs.State.{slotBytes, slotConfig}
 use Rattle.rules.specs.Uses.{limited, usesLeft, useLeft, useAt, clearHighest, spend}
@@ -23,7 +23,7 @@ use Rattle.demands.specs.Soundings.{Soundings}
 pub soundings : Soundings
 unfolding ones leadingZeros
     K H0 pad words next scheduleTo round rounds plus compress hash sha256
-    bitIn bitsIn checkFrom checkValue lowFirst counted frame lowFirstAt whole
+    bitIn bitsIn checkFrom checkValue counted frame lowFirstAt whole
     named onlyBits equal slotBytes slotConfig limited usesLeft useLeft useAt clearHighest spend checkMacMessage addressFits position
     nonceShape nonceInput nonce
     macShape firstRow secondRow macTempKey macSlot macFree keySpent mac

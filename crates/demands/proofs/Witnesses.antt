@@ -9,7 +9,7 @@ use lib.Seq.{getD-set-other}
 use lib.Bits.{bitXor, xor-self, xor-zero-r}
 use native.Mathlib.Omega.{arith}
 use Rattle.digest.specs.Sha256.{K, H0, pad, words, next, scheduleTo, round, rounds, plus, compress, hash, sha256}
-use Rattle.wire.specs.Wire.{bitIn, bitsIn, checkFrom, checkValue, lowFirst, counted, frame, lowFirstAt, whole}
+use Rattle.wire.specs.Wire.{bitIn, bitsIn, checkFrom, checkValue, counted, frame, lowFirstAt, whole}
 use Rattle.wire.proofs.Xor.{xor-assoc}
 use Rattle.wire.proofs.Cases.{if-all}
 use Rattle.rules.specs.declared.Device.{Device}
@@ -62,7 +62,7 @@ tokens-alike x = record {
 opening : Unit {0}
 unfolding
     holding freshOf outcome outputAfter runs draws holds isMac spared planFor wakeTurn sleepTurn blockTurn commandOf
-    whole lowFirst lowFirstAt checkValue checkFrom bitsIn bitIn frame counted
+    whole lowFirstAt checkValue checkFrom bitsIn bitIn frame counted
     onlyBits named equal zipWith slotBytes slotConfig limited useLeft spend
     nonce nonceShape nonceInput
     mac macShape macFree macTempKey macSlot macDigest macMessage firstRow secondRow keyDrawn keySpent

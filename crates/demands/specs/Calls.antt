@@ -3,9 +3,9 @@ use Prim.Native.Nat.{ℕ}
 use mathlib.Core.Bool.{Bool, false, _&&_}
 use mathlib.Core.List.{List, [], _∷_, _++_}
 use lib.ListN.{length, set}
-use Rattle.wire.specs.Wire.{if_then_else_, frame, whole}
+use Rattle.wire.specs.Wire.{if_then_else_, frame, whole, lowFirst}
 use Rattle.rules.specs.declared.Slot.{Slot}
-use Rattle.rules.specs.Words.{zeros, lowFirst}
+use Rattle.rules.specs.Words.{zeros}
 use Rattle.rules.specs.State.{isAwake}
 use Rattle.rules.specs.Plan.{Rule}
 use Rattle.rules.specs.Commands.{Command, commandOf, ruleOf}

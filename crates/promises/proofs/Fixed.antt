@@ -31,10 +31,21 @@ module _ {K : Type 0} {A R L : K → Type 0} (Pre : (κs : K) → A κs → Type
 pub one : {A : Type 0} {x y z : A} → x ≡ z → y ≡ z → x ≡ y
 one p q = p ∙ sym q
 
-pub both : {A B : Type 0} {x y z : A} {u v w : B} → (x ≡ z) × (u ≡ w) → (y ≡ z) × (v ≡ w) → (x ≡ y) × (u ≡ v)
-both p q = (one (p .0) (q .0), one (p .1) (q .1))
+-- a contract that asks nothing and says what the result and each lent thing equal fixes them
+module _ {K : Type 0} {A R L : K → Type 0} where
+  pub fixed : {f : (κs : K) → A κs → R κs} → Fixed {A = A} {L = L} (λ κs a. Unit {0}) (λ κs a x l. x ≡ f κs a)
+  fixed = record { total = λ κs a. tt; one = λ κs a x y l m p q. one p q }
 
-pub all : {A B C D : Type 0} {x y z : A} {s t u : B} {o p q : C} {i j k : D}
-    → (x ≡ z) × ((s ≡ u) × ((o ≡ q) × (i ≡ k))) → (y ≡ z) × ((t ≡ u) × ((p ≡ q) × (j ≡ k)))
-    → (x ≡ y) × ((s ≡ t) × ((o ≡ p) × (i ≡ j)))
-all a b = (one (a .0) (b .0), (one (a .1 .0) (b .1 .0), both (a .1 .1) (b .1 .1)))
+  pub fixed-seen : {B : Type 0} {seen : (κs : K) → R κs → B} {f : (κs : K) → A κs → B}
+      → FixedSeen {A = A} {L = L} (λ κs a. Unit {0}) (λ κs a x l. seen κs x ≡ f κs a) seen
+  fixed-seen = record { total = λ κs a. tt; one = λ κs a x y l m p q. one p q }
+
+  pub fixed-lent : {B : Type 0} {lent : (κs : K) → L κs → B} {f : (κs : K) → A κs → R κs} {g : (κs : K) → A κs → B}
+      → FixedLent {A = A} (λ κs a. Unit {0}) (λ κs a x l. (x ≡ f κs a) × (lent κs l ≡ g κs a)) lent
+  fixed-lent = record { total = λ κs a. tt; both = λ κs a x y l m p q. (one (p .0) (q .0), one (p .1) (q .1)) }
+
+  pub fixed-lents : {B C D : Type 0} {first : (κs : K) → L κs → B} {second : (κs : K) → L κs → C} {third : (κs : K) → L κs → D}
+      {f : (κs : K) → A κs → R κs} {g : (κs : K) → A κs → B} {h : (κs : K) → A κs → C} {i : (κs : K) → A κs → D}
+      → FixedLents {A = A} (λ κs a. Unit {0})
+      (λ κs a x l. (x ≡ f κs a) × ((first κs l ≡ g κs a) × ((second κs l ≡ h κs a) × (third κs l ≡ i κs a)))) first second third
+  fixed-lents = record { total = λ κs a. tt; all = λ κs a x y l m p q. (one (p .0) (q .0), (one (p .1 .0) (q .1 .0), (one (p .1 .1 .0) (q .1 .1 .0), one (p .1 .1 .1) (q .1 .1 .1)))) }

@@ -1,17 +1,23 @@
 -- A file for each crate, a theorem for each of its public functions.
 pub mod Fixed
-pub mod Checks
+pub mod Address
+pub mod Check_mac
 pub mod Config
+pub mod Derive_key
+pub mod Desk
 pub mod Digest
 pub mod Digest_c
-pub mod Keys
+pub mod Gen_dig
+pub mod Mac
 pub mod Messages
+pub mod Nonce
+pub mod Read
+pub mod Records
 pub mod Replies
 pub mod Rows
 pub mod Stores
 pub mod Token
-pub mod Desk
 pub mod Upkeep
 pub mod Uses
 pub mod Wire
-pub mod Zones
+pub mod Write

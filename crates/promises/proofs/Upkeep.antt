@@ -2,13 +2,13 @@
 use Rattle.upkeep.proofs.lock.Reads as lock
 use Rattle.upkeep.proofs.update_extra.Reads as update-extra
 use Rattle.upkeep.proofs.dev_rev.Reads as dev-rev
-use Rattle.promises.proofs.Fixed.{Fixed, one}
+use Rattle.promises.proofs.Fixed.{Fixed, fixed}
 
 pub lock-fixed : Fixed lock.Pre lock.Post
-lock-fixed = record { total = λ κs a. tt; one = λ κs a x y l m p q. one p q }
+lock-fixed = fixed
 
 pub update-extra-fixed : Fixed update-extra.Pre update-extra.Post
-update-extra-fixed = record { total = λ κs a. tt; one = λ κs a x y l m p q. one p q }
+update-extra-fixed = fixed
 
 pub dev-rev-fixed : Fixed dev-rev.Pre dev-rev.Post
-dev-rev-fixed = record { total = λ κs a. tt; one = λ κs a x y l m p q. one p q }
+dev-rev-fixed = fixed

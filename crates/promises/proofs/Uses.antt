@@ -1,10 +1,10 @@
 -- The public functions of crate `uses`.
 use Rattle.uses.proofs.use_left.Reads as use-left
 use Rattle.uses.proofs.spend_use.Reads as spend-use
-use Rattle.promises.proofs.Fixed.{Fixed, one}
+use Rattle.promises.proofs.Fixed.{Fixed, fixed}
 
 pub use-left-fixed : Fixed use-left.Pre use-left.Post
-use-left-fixed = record { total = λ κs a. tt; one = λ κs a x y l m p q. one p q }
+use-left-fixed = fixed
 
 pub spend-use-fixed : Fixed spend-use.Pre spend-use.Post
-spend-use-fixed = record { total = λ κs a. tt; one = λ κs a x y l m p q. one p q }
+spend-use-fixed = fixed

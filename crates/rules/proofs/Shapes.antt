@@ -1,8 +1,9 @@
--- What the shapes of Read and Write say: the address fits, and a value without a MAC is as long as its address asks.
+-- What the shapes of Read and Write say: the address fits, and a value is as long as its address asks, or 32 bytes with a MAC.
 use Prim.Native.Nat.{ℕ}
-use mathlib.Core.Path.{_≡_}
+use mathlib.Core.Path.{_≡_, refl}
 use mathlib.Core.Bool.{Bool, true, false, _&&_, _||_}
 use mathlib.Core.List.{List, [], _∷_}
+use native.Mathlib.Omega.{arith}
 use borrow.Author.Tests.{eqb-true}
 use lib.ListN.{length}
 use Rattle.wire.specs.Wire.{if_then_else_}
@@ -40,3 +41,11 @@ clear-length false n h k = eqb-true n 4 h
 
 pub size-clear : (f : Fields) (input : List ℕ) → writeShape f input ≡ true → hasMac input ≡ false → length input ≡ size f
 size-clear f input h k = clear-length (bit 7 (f .param1)) (length input) (write-shape f input h .1) k
+
+mac-length : (t : Bool) (n : ℕ) → lengthFits t n ≡ true → n ≡ 64 → _≡_ {A = ℕ} (if t then 32 else 4) 32
+unfolding lengthFits
+mac-length true n h k = refl
+mac-length false n h k = omega (arith, eqb-true n 4 h)
+
+pub size-mac : (f : Fields) (input : List ℕ) → writeShape f input ≡ true → hasMac input ≡ true → size f ≡ 32
+size-mac f input h k = mac-length (bit 7 (f .param1)) (length input) (write-shape f input h .1) (eqb-true (length input) 64 k)

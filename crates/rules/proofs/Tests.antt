@@ -30,14 +30,6 @@ pub or-first : (a b : Bool) → (a || b) ≡ true → b ≡ false → a ≡ true
 or-first true b h k = refl
 or-first false b h k = sym k ∙ h
 
-pub iff-true : (b : Bool) → (b iff true) ≡ b
-iff-true true = refl
-iff-true false = refl
-
-pub iff-false : (b : Bool) → (b iff false) ≡ not b
-iff-false true = refl
-iff-false false = refl
-
 pub then-true : (a : Bool) → (a ⇒ true) ≡ true
 then-true true = refl
 then-true false = refl

@@ -26,6 +26,10 @@ word f = record { 0 = f .param2 }
 abbrev pub slotOf : Word → Slot
 slotOf w = slot (w .0 / 8 % 16)
 
+-- the data slot that Read and Write go to
+abbrev pub dataSlot : Fields → Slot
+dataSlot f = slotOf (word f)
+
 -- Configuration words 0-21, OTP words 0-15, else 03 (data words 0-127). Configuration word 16 up is 4 bytes only (03).
 unfoldable pub addressFits : Fields → Bool
 addressFits f =

@@ -4,8 +4,8 @@ use Prim.Native.Nat.{ℕ, _%_}
 use mathlib.Core.Bool.{_||_}
 use mathlib.Core.List.{List, [], _∷_, _++_}
 use Rattle.rules.specs.declared.Fields.{Fields}
-use Rattle.wire.specs.Wire.{if_then_else_}
-use Rattle.rules.specs.Words.{bit, bytes, zeros, lowFirst}
+use Rattle.wire.specs.Wire.{if_then_else_, lowFirst}
+use Rattle.rules.specs.Words.{bit, bytes, zeros}
 use Rattle.rules.specs.State.{sn0-1, sn2-3, sn4-7, sn8}
 
 -- opcode, Param1, Param2

@@ -9,7 +9,7 @@ use Rattle.wire.specs.Wire.{if_then_else_}
 use Rattle.rules.specs.Words.{_is_, _under_, bit, onlyBits, xorRow}
 use Rattle.rules.specs.State.{slotBytes, bothLocked, otpMode, isSecret, encryptRead, readKey}
 use Rattle.rules.specs.Plan.{Rule, gives}
-use Rattle.rules.specs.Address.{zone, size, word, slotOf, addressFits, position, encrypts, encryptsFor}
+use Rattle.rules.specs.Address.{zone, size, word, dataSlot, addressFits, position, encrypts, encryptsFor}
 
 -- Bit 7: 32 bytes, else 4; bits 1-0 zone 0-2.
 unfoldable pub readShape : Fields → List ℕ → Bool
@@ -27,10 +27,10 @@ otpReadFree config f =
 unfoldable pub dataReadFree : Device → Fields → Bool
 dataReadFree d f =
     bothLocked (d .config)
-    && (if isSecret (d .config) (slotOf (word f))
-    then encryptRead (d .config) (slotOf (word f)) && bit 7 (f .param1) && encrypts (d .tempKey)
-    && encryptsFor (d .config) (d .tempKey) (readKey (d .config) (slotOf (word f))) (slotOf (word f))
-    else not (encryptRead (d .config) (slotOf (word f))))
+    && (if isSecret (d .config) (dataSlot f)
+    then encryptRead (d .config) (dataSlot f) && bit 7 (f .param1) && encrypts (d .tempKey)
+    && encryptsFor (d .config) (d .tempKey) (readKey (d .config) (dataSlot f)) (dataSlot f)
+    else not (encryptRead (d .config) (dataSlot f)))
 
 -- Configuration always.
 unfoldable pub readFree : Device → Fields → Bool
@@ -41,7 +41,7 @@ unfoldable pub readBytes : Device → Fields → List ℕ
 readBytes d f =
     if zone f is 0 then take (size f) (drop (position f) (d .config))
     else (if zone f is 1 then take (size f) (drop (position f) (d .otp))
-    else (if isSecret (d .config) (slotOf (word f)) then xorRow (slotBytes d (slotOf (word f))) (d .tempKey .bytes)
+    else (if isSecret (d .config) (dataSlot f) then xorRow (slotBytes d (dataSlot f)) (d .tempKey .bytes)
     else take (size f) (drop (position f) (d .«data»))))
 
 unfoldable pub read : Device → Fields → List ℕ → Rule

@@ -50,10 +50,6 @@ bytes from upto zone = take (upto + 1 - from) (drop from zone)
 abbrev pub zeros : ℕ → List ℕ
 zeros n = replicate n 0
 
--- a number of two bytes, low first
-abbrev pub lowFirst : ℕ → List ℕ
-lowFirst x = x % 256 ∷ x / 256 ∷ []
-
 -- two rows of bytes are equal; one row XOR another
 unfoldable pub equal : List ℕ → List ℕ → Bool
 equal [] [] = true

@@ -12,7 +12,7 @@ use Rattle.rules.specs.Words.{_⇒_, _iff_, _is_, _upTo_, bit, bytes, eq
 use Rattle.rules.specs.State.{configLocked, valuesLocked, otpMode, isSecret, writeConfigBit, writeKey}
 use Rattle.rules.specs.Plan.{Store, inConfig, inOtp, inData, upwards, Plan, puts, refusedAfter, Rule}
 use Rattle.rules.specs.Messages.{header, layout96}
-use Rattle.rules.specs.Address.{zone, size, word, slotOf, addressFits, position, encrypts, encryptsFor}
+use Rattle.rules.specs.Address.{zone, size, dataSlot, addressFits, position, encrypts, encryptsFor}
 
 -- Bit 6 encrypted, bit 7 and address as Read; data 4, 32, or 64 (value, MAC), the last two with bit 7.
 unfoldable pub writeShape : Fields → List ℕ → Bool
@@ -35,7 +35,7 @@ configWriteFree config f input =
 
 -- the data slot that a word belongs to is written encrypted: WriteConfig bit 14
 abbrev pub slotEncrypted : List ℕ → Fields → Bool
-slotEncrypted config f = writeConfigBit 14 config (slotOf (word f))
+slotEncrypted config f = writeConfigBit 14 config (dataSlot f)
 
 -- MAC present exactly when encrypted. Values unlocked: bit 6 decides encryption. Values locked: data by WriteConfig; OTP clear.
 unfoldable pub encrypted : List ℕ → Fields → Bool
@@ -54,10 +54,10 @@ unfoldable pub slotWriteFree : Device → Fields → Bool
 slotWriteFree d f =
     if slotEncrypted (d .config) f
     then encrypts (d .tempKey)
-    && encryptsFor (d .config) (d .tempKey) (writeKey (d .config) (slotOf (word f))) (slotOf (word f))
-    else not (writeConfigBit 15 (d .config) (slotOf (word f)))
-    && not (writeConfigBit 13 (d .config) (slotOf (word f)))
-    && (bit 7 (f .param1) || not (isSecret (d .config) (slotOf (word f))))
+    && encryptsFor (d .config) (d .tempKey) (writeKey (d .config) (dataSlot f)) (dataSlot f)
+    else not (writeConfigBit 15 (d .config) (dataSlot f))
+    && not (writeConfigBit 13 (d .config) (dataSlot f))
+    && (bit 7 (f .param1) || not (isSecret (d .config) (dataSlot f)))
 
 -- Values locked: bit 6 clear; data by WriteConfig; OTP only in mode 55.
 unfoldable pub lockedWriteFree : Device → Fields → Bool

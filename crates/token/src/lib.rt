@@ -100,16 +100,16 @@ fn run(d: Device, opcode: u8, f: Fields, input: &[u8], random: [u8; 32]) -> Repl
     ensures { λ r. ⌜ r ≡ reply (planOf (commandOf opcode) d f (now (input .entry)) random) d ⌝ }
 {
     match opcode {
-        0x02 => zones::read::read(d, f, input),
-        0x08 => checks::mac(d, f, input),
-        0x12 => zones::write::write(d, f, input),
-        0x15 => keys::gen_dig::gen_dig(d, f, input),
-        0x16 => keys::nonce::nonce(d, f, input, random),
+        0x02 => read::read(d, f, input),
+        0x08 => mac::mac(d, f, input),
+        0x12 => write::write(d, f, input),
+        0x15 => gen_dig::gen_dig(d, f, input),
+        0x16 => nonce::nonce(d, f, input, random),
         0x17 => upkeep::lock(d, f, input),
-        0x1B => keys::nonce::random(d, f, input, random),
-        0x1C => keys::derive::derive_key(d, f, input),
+        0x1B => nonce::random(d, f, input, random),
+        0x1C => derive_key::derive_key(d, f, input),
         0x20 => upkeep::update_extra(d, f, input),
-        0x28 => checks::check_mac(d, f, input),
+        0x28 => check_mac::check_mac(d, f, input),
         0x30 => upkeep::dev_rev(d, f, input),
         _ => replies::said(d, Status::BadShape),
     }

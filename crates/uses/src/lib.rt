@@ -1,5 +1,7 @@
 // Uses: leading zeros find the bit that a use clears, uses left are the count of ones.
 ghost use mathlib.Core.Path.{_≡_};
+ghost use mathlib.Core.List.{[]};
+ghost use Rattle.wire.specs.Wire.{if_then_else_};
 ghost use Rattle.rules.specs.Plan.{storeAll};
 ghost use Rattle.rules.specs.Uses.{limited, onesOf, usesLeft, useLeft, firstNonzero, useAt, clearHighest, spend};
 ghost use Rattle.rules.specs.Words.{bytes};
@@ -90,7 +92,7 @@ fn clear_highest(b: u8) -> u8
 }
 
 // One use of a slot spent, where its uses are limited.
-pub fn spend_use(d: Device, k: Slot) -> Device
+fn spend(d: Device, k: Slot) -> Device
     ensures { λ r. ⌜ r ≡ storeAll d (spend (d .config) k) ⌝ }
 {
     let c = d.config;
@@ -101,4 +103,11 @@ pub fn spend_use(d: Device, k: Slot) -> Device
     } else {
         d
     }
+}
+
+// The use that a command spends where it draws on a slot.
+pub fn spend_use(d: Device, k: Slot, drawn: bool) -> Device
+    ensures { λ r. ⌜ r ≡ storeAll d (if drawn then spend (d .config) k else []) ⌝ }
+{
+    if drawn { spend(d, k) } else { d }
 }

@@ -7,7 +7,7 @@ use native.Mathlib.Numerals.{add-one, add-two}
 use native.Mathlib.Omega.{arith}
 use lib.ListN.{length, take, drop, set, length-drop}
 use lib.Seq.{paste, take-length, take-at, drop-drop}
-use Rattle.wire.specs.Wire.{checkFrom, checkValue, lowFirst, counted, frame}
+use Rattle.wire.specs.Wire.{checkFrom, checkValue, counted, frame}
 
 -- the bytes copied, and the count stored before them
 copied : (o p : List ℕ) → 1 ≤ length o → set (paste o 1 p (length p)) 0 (length p + 3) ≡ counted p ++ drop (length p + 1) o
@@ -25,7 +25,7 @@ two-after (z ∷ h) t a b e = ap (λ (l : List ℕ). z ∷ l) (two-after h t a b
 -- the check value of what stands there, stored after it
 stored : (o p : List ℕ) (c : ℕ) → length p + 3 ≤ length o → c ≡ checkFrom 0 (take (length p + 1) (counted p ++ drop (length p + 1) o))
     → set (set (counted p ++ drop (length p + 1) o) (length p + 1) (c % 256)) (length p + 2) (c / 256) ≡ frame p ++ drop (length p + 3) o
-unfolding frame lowFirst checkValue counted
+unfolding frame checkValue counted
 stored o p c h e =
     let n : ℕ = length p in
     let l : List ℕ = counted p in

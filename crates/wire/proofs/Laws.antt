@@ -26,7 +26,7 @@ check-more c xs i h = rw (add-one, take-suc xs i 0, check-append)
 -- ---- frames
 
 pub length-frame : (p : List ℕ) → length (frame p) ≡ length p + 3
-unfolding frame counted lowFirst
+unfolding frame counted
 length-frame p = simp length-append (omega arith)
 
 -- a frame determines its bytes

@@ -2,7 +2,7 @@
 use mathlib.Core.Path.{_≡_, refl}
 use mathlib.Core.Bool.{true, false}
 use mathlib.Core.List.{[], _∷_}
-use Rattle.wire.specs.Wire.{bitIn, bitsIn, checkFrom, checkValue, lowFirst, counted, frame, lowFirstAt, whole}
+use Rattle.wire.specs.Wire.{bitIn, bitsIn, checkFrom, checkValue, counted, frame, lowFirstAt, whole}
 
 pub known :
     (checkValue (0x04 ∷ 0x11 ∷ []) ≡ 0x4333)
@@ -17,5 +17,5 @@ pub known :
     × (whole (0x07 ∷ 0x30 ∷ 0x00 ∷ 0x00 ∷ 0x00 ∷ 0x03 ∷ 0x5D ∷ []) ≡ true)
     × (whole (0x07 ∷ 0x30 ∷ 0x00 ∷ 0x00 ∷ 0x00 ∷ 0x03 ∷ 0x5E ∷ []) ≡ false)
     × (whole [] ≡ false)
-unfolding bitIn bitsIn checkFrom checkValue lowFirst counted frame lowFirstAt whole
+unfolding bitIn bitsIn checkFrom checkValue counted frame lowFirstAt whole
 known = (refl, refl, refl, refl, refl, refl, refl, refl, refl, refl, refl, refl)

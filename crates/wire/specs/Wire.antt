@@ -34,7 +34,7 @@ checkValue l = checkFrom 0 l
 
 -- ---- Answer: count, 1, 4 or 32 bytes, check value (low byte first).
 
-unfoldable pub lowFirst : ℕ → List ℕ
+abbrev pub lowFirst : ℕ → List ℕ
 lowFirst c = c % 256 ∷ c / 256 ∷ []
 
 -- The bytes of an answer after their count, which counts itself and the check value too.

@@ -1,5 +1,5 @@
 //! The cases with stored expectations, each through the independent engine, the bench program and the C interface; and the
-//! numbers that only buffers bring about, which no record can. `--without-bench` leaves the bench program out.
+//! numbers that only buffers bring about, which no record can.
 
 use std::process::ExitCode;
 
@@ -14,7 +14,6 @@ use runs::tally::Tally;
 fn main() -> ExitCode {
     let mut tally = Tally::default();
     let bench = program::bench();
-    let without_bench = std::env::args().any(|argument| argument == "--without-bench");
     for file in ["document01.txt", "bench.txt", "readings.txt", "fitted.txt"] {
         let cases = cases::read(file);
         println!("{file}: {} cases", cases.len());
@@ -23,10 +22,8 @@ fn main() -> ExitCode {
                 tally.result(result.map_err(|why| format!("{}, by {by}: {why}", case.name)));
             };
             holds("the independent engine", program::same_lines(&case.output, &engine::bench(&case.input)));
-            if !without_bench {
-                let found = program::run(&bench, &case.input, case.input.len().max(1));
-                holds("the bench program", found.and_then(|found| program::same_lines(&case.output, &found)));
-            }
+            let found = program::run(&bench, &case.input, case.input.len().max(1));
+            holds("the bench program", found.and_then(|found| program::same_lines(&case.output, &found)));
             if !case.steps.is_empty() {
                 holds("the C interface", through_desk(case));
             }

@@ -1,0 +1,2 @@
+-- What the bench program prints.
+pub mod Bench

@@ -1,0 +1,2 @@
+-- Laws of what was sent, for the proofs to cite.
+pub mod Sent

@@ -1,4 +1,0 @@
-// Read and Write.
-mod address;
-pub mod read;
-pub mod write;

@@ -1,0 +1,1 @@
+"""The planner's helper, in its parts; tools/plan is the command."""

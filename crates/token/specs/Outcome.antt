@@ -18,10 +18,11 @@ use Rattle.token.specs.declared.fresh.Made.{Made}
 abbrev pub unchanged : Token → Number → Outcome
 unchanged s n = record { token = s; number = n; length = 0 }
 
--- 1 output under 35 bytes, 2 random bytes not exactly 32. Buffers of so many bytes are right where neither applies; which applies where they are not
+-- 1 output under 35 bytes, 2 random bytes not exactly 32: so many bytes of each are right where neither applies.
 abbrev pub buffersFit : ℕ → ℕ → Bool
 buffersFit supplied output = 35 upTo output && supplied is 32
 
+-- which of the two applies to buffers that are not right
 abbrev pub refusal : ℕ → Number
 refusal output = if output under 35 then ShortOutput else WrongRandom
 

@@ -1,4 +1,5 @@
--- Tests: both halves of an `&&` or an `||`, an `iff` or a `⇒` with one half known, a bound by cases, a bit that is not there, and the tests that a branch gives.
+-- Tests: both halves of an `&&` or an `||`, an `iff` that holds, a `⇒` with one half known, a bound by cases, a bit that is not there, and the
+-- tests that a branch gives.
 use Prim.Native.Nat.{ℕ, _^_, _≤_, _<_}
 use mathlib.Core.Path.{_≡_, refl, sym, _∙_}
 use mathlib.Core.Bool.{Bool, true, false, not, _&&_, _||_}

@@ -14,7 +14,7 @@ use Rattle.rules.specs.declared.Word.{Word}
 use Rattle.rules.specs.Words.{_is_, _upTo_, bit, xorRow}
 use Rattle.rules.specs.State.{index, slotConfig, configLocked, valuesLocked, bothLocked, isSecret, encryptRead}
 use Rattle.rules.specs.Plan.{settle, gives}
-use Rattle.rules.specs.Address.{zone, size, word, slotOf, addressFits, position}
+use Rattle.rules.specs.Address.{zone, size, word, slotOf, dataSlot, addressFits, position}
 use Rattle.rules.specs.Read.{read, readFree, readBytes, dataReadFree}
 use Rattle.rules.specs.Upkeep.{lock, lockFree, zoneOpen, ofValues}
 use Rattle.rules.proofs.Tests.{and-left, and-right}
@@ -41,10 +41,10 @@ same-config config j k e = rw e
 
 module _ (k : Slot) (d : Device) (y : List ℕ) (w : Beside k (d .«data») y) where
   unread : (f : Fields) → isSecret (d .config) k ≡ true → encryptRead (d .config) k ≡ false → dataReadFree d f ≡ true
-      → index (slotOf (word f)) ≡ index k → ⊥
+      → index (dataSlot f) ≡ index k → ⊥
   unfolding dataReadFree
   unread f s n b e =
-      let c = same-config (d .config) (slotOf (word f)) k e in
+      let c = same-config (d .config) (dataSlot f) k e in
       false≢true (rw (c, s, n) at (and-right (bothLocked (d .config)) _ b))
 
   bytes-same : (f : Fields) → isSecret (d .config) k ≡ true → encryptRead (d .config) k ≡ false → addressFits f ≡ true → readFree d f ≡ true
@@ -54,8 +54,8 @@ module _ (k : Slot) (d : Device) (y : List ℕ) (w : Beside k (d .«data») y) w
       if-same (zone f is 0) (λ z. refl)
       (λ z. if-same (zone f is 1) (λ o. refl)
       (λ o. let out = unread f s n (rw (z, o) at b) in
-      if-same (isSecret (d .config) (slotOf (word f)))
-      (λ c. ap (λ (row : List ℕ). xorRow row (d .tempKey .bytes)) (slot-same k d y w (slotOf (word f)) out))
+      if-same (isSecret (d .config) (dataSlot f))
+      (λ c. ap (λ (row : List ℕ). xorRow row (d .tempKey .bytes)) (slot-same k d y w (dataSlot f) out))
       (λ c. part-same k (d .«data») y w (position f) (size f)
       (λ i l e. out (sym (in-slot (word f) (bit 7 (f .param1)) i (fits-data f z o a) l) ∙ e)))))
 

@@ -12,7 +12,7 @@ use Rattle.rules.specs.declared.TempKey.{TempKey}
 use Rattle.rules.specs.Words.{_iff_, _is_, bit}
 use Rattle.rules.specs.State.{slotBytes, configLocked, valuesLocked, isSecret}
 use Rattle.rules.specs.Plan.{Plan, withTempKey, gives, settle}
-use Rattle.rules.specs.Address.{zone, word, slotOf, addressFits, encrypts}
+use Rattle.rules.specs.Address.{zone, dataSlot, addressFits, encrypts}
 use Rattle.rules.specs.Mac.{mac, macFree, macTempKey, macDigest, usesTempKey, firstRow, secondRow}
 use Rattle.rules.specs.CheckMac.{checkMac, checkMacFree, checkMacTempKey, checkMacDigest, checkMacEffect, checkMacKey, challenge}
 use Rattle.rules.specs.GenDig.{genDig, genDigFree}
@@ -44,11 +44,11 @@ module _ (d : Device) (f : Fields) (empty : d .tempKey .valid ≡ false) where
   unfolding deriveKeyFree deriveKeyTempKey
   deriveKey-unmet input = rw (empty, and-false)
 
-  read-unmet : (zone f is 2 && isSecret (d .config) (slotOf (word f))) ≡ true → readFree d f ≡ false
+  read-unmet : (zone f is 2 && isSecret (d .config) (dataSlot f)) ≡ true → readFree d f ≡ false
   unfolding readFree dataReadFree encrypts
   read-unmet u =
       let z : zone f ≡ 2 = eqb-true (zone f) 2 (and-left (zone f is 2) _ u) in
-      let k : isSecret (d .config) (slotOf (word f)) ≡ true = and-right (zone f is 2) _ u in
+      let k : isSecret (d .config) (dataSlot f) ≡ true = and-right (zone f is 2) _ u in
       rw (z, k, empty, and-false, and-false)
 
   locked-unmet : (zone f is 2 && slotEncrypted (d .config) f) ≡ true → lockedWriteFree d f ≡ false
@@ -123,8 +123,8 @@ module _ (d : Device) (t : TempKey) (f : Fields) where
   checkMac-same input u = rw (u, first-same u, second-same (challenge input) u)
 
   -- a read of data is not of a secret slot
-  module _ (input : List ℕ) (u : (zone f is 2 && isSecret (d .config) (slotOf (word f))) ≡ false) where
-    clear : addressFits f ≡ true → zone f is 0 ≡ false → zone f is 1 ≡ false → isSecret (d .config) (slotOf (word f)) ≡ false
+  module _ (input : List ℕ) (u : (zone f is 2 && isSecret (d .config) (dataSlot f)) ≡ false) where
+    clear : addressFits f ≡ true → zone f is 0 ≡ false → zone f is 1 ≡ false → isSecret (d .config) (dataSlot f) ≡ false
     clear h z o = rw (data-zone f h z o) at u
 
     read-free-same : addressFits f ≡ true → readFree e f ≡ readFree d f

@@ -14,7 +14,7 @@ use Rattle.rules.specs.Words.{_is_}
 use Rattle.rules.specs.State.{emptied, statusByte, isSecret}
 use Rattle.rules.specs.Plan.{withTempKey}
 use Rattle.rules.specs.Mac.{usesTempKey}
-use Rattle.rules.specs.Address.{zone, word, slotOf}
+use Rattle.rules.specs.Address.{zone, dataSlot}
 use Rattle.rules.specs.Write.{encrypted}
 use Rattle.rules.specs.Commands.{Command, aRead, aMac, aWrite, aGenDig, aNonce, aLock, aRandom, aDeriveKey, anUpdateExtra, aCheckMac, aDevRev, unknown, planOf}
 use Rattle.rules.specs.Events.{sleep, fieldsOf}
@@ -34,7 +34,7 @@ NoNonce s (c ∷ cs) = (NonceAccepted s c → ⊥) × NoNonce (given s c .token)
 
 -- The commands that use TempKey: MAC and CheckMac with bit 0 or 1, GenDig, DeriveKey, a Read of a secret slot, an encrypted Write.
 unfoldable pub needsTempKey : Command → Device → Fields → Bool
-needsTempKey aRead d f = zone f is 2 && isSecret (d .config) (slotOf (word f))
+needsTempKey aRead d f = zone f is 2 && isSecret (d .config) (dataSlot f)
 needsTempKey aMac d f = usesTempKey f
 needsTempKey aWrite d f = encrypted (d .config) f
 needsTempKey aGenDig d f = true

@@ -21,6 +21,7 @@ TAIL = bytes([SN[8], SN[0], SN[1]])
 lines = []
 
 
+# its own, and not tools/planner's, which the helper's tests hold to what is stored here
 def check(message):
     register = 0
     for byte in message:

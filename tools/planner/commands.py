@@ -81,25 +81,25 @@ def checkmac(words, token):
     return Fields(wire.CHECKMAC, mode, slot, data + words.bytes("the other data", 13))
 
 
+def optional(words, mark, name, length):
+    """The data behind its mark, or none where the line ends."""
+    if not words.more():
+        return b""
+    words.choose(mark)
+    return words.bytes(name, length)
+
+
 def gendig(words, token):
     zone = ZONES.index(words.choose(*ZONES))
     if zone < 2:
         words.choose("block")
         return Fields(wire.GENDIG, zone, words.number(f"{ZONES[zone]} block", 1))
-    slot = slot_number(words)
-    if not words.more():
-        return Fields(wire.GENDIG, zone, slot)
-    words.choose("header")
-    return Fields(wire.GENDIG, zone, slot, words.bytes("the header", 4))
+    return Fields(wire.GENDIG, zone, slot_number(words), optional(words, "header", "the header", 4))
 
 
 def derivekey(words, token):
     mode = words.mode((0, 4), "0 or 4")
-    slot = slot_number(words)
-    if not words.more():
-        return Fields(wire.DERIVEKEY, mode, slot)
-    words.choose("mac")
-    return Fields(wire.DERIVEKEY, mode, slot, words.bytes("the MAC", 32))
+    return Fields(wire.DERIVEKEY, mode, slot_number(words), optional(words, "mac", "the MAC", 32))
 
 
 def read(words, token):

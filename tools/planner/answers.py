@@ -2,11 +2,9 @@
 from itertools import groupby
 
 from planner import wire
-from planner.conditions import asked
 from planner.wire import hexadecimal
-from planner.zones import ENCRYPT_READ, IS_SECRET, LOCK_CONFIG, REV_NUM, place_of
+from planner.zones import LOCK_CONFIG, place_of
 
-SEALED = IS_SECRET | ENCRYPT_READ
 UNLOCKED_RANDOM = bytes.fromhex("FFFF0000") * 8
 ZONES = ("configuration", "OTP", "data")
 EMPTIED = "TempKey is empty now"
@@ -22,9 +20,51 @@ DONE = {
     wire.UPDATEEXTRA: "stored",
 }
 
-# Of each configuration byte; document 01 leaves out 13 to 16, and sheet A's table 2-4 names them.
-BYTE_NAMES = ["SN0-3"] * 4 + ["RevNum"] * 4 + ["SN4-7"] * 4 + ["SN8", "reserved", "I2C_Enable", "reserved"]
-BYTE_NAMES += ["I2C_Address", "CheckMacConfig", "OTPmode", "SelectorMode"]
+# What each command asks for beyond its shape, some by the two low bits of Param1. What is not listed asks for nothing.
+CONDITIONS = {
+    wire.MAC: [
+        "both zones locked",
+        "TempKey, if used: Valid, CheckFlag 0, SourceFlag as bit 2 of the mode",
+        "slot, if drawn: CheckOnly 0, a use left",
+    ],
+    wire.CHECKMAC: [
+        "both zones locked",
+        "TempKey, if used: Valid, SourceFlag as bit 2 of the mode",
+        "slot, if drawn: a use left",
+    ],
+    wire.GENDIG: ["configuration locked", "TempKey Valid", "for data: a use left, Param2 under 8000"],
+    wire.DERIVEKEY: [
+        "both zones locked",
+        "SlotConfig bit 13",
+        "TempKey Valid, GenData 0, CheckFlag 0, SourceFlag as bit 2 of the mode",
+        "a MAC exactly with SlotConfig bit 15, and the right one",
+        "slots drawn: CheckOnly 0; the parent, if drawn: a use left",
+    ],
+    (wire.READ, 1): ["both zones locked", "OTPmode AA or 55, or 00 and one of the words 2-15"],
+    (wire.READ, 2): [
+        "both zones locked",
+        "IsSecret and EncryptRead: both clear, or both set and 32 bytes",
+        "if set: TempKey Valid, GenData 1, CheckFlag 0, SlotID as ReadKey, SourceFlag as CheckMacConfig",
+    ],
+    (wire.WRITE, 0): ["configuration unlocked", "in clear", "bytes 16 to 83"],
+    (wire.WRITE, 1): [
+        "configuration locked",
+        "values unlocked: 32 bytes; values locked: OTPmode 55, in clear",
+        "encrypted: TempKey Valid, GenData 1, CheckFlag 0, and the right MAC",
+    ],
+    (wire.WRITE, 2): [
+        "configuration locked",
+        "values unlocked: 32 bytes; values locked: clear or encrypted as WriteConfig says",
+        "encrypted: TempKey Valid, GenData 1, CheckFlag 0, and the right MAC",
+        "encrypted, values locked: SlotID as WriteKey, SourceFlag as CheckMacConfig",
+    ],
+    wire.LOCK: ["the zone unlocked", "for values: configuration locked", "the right sum"],
+    (wire.UPDATEEXTRA, 1): ["Selector or SelectorMode zero"],
+}
+
+# Of each configuration byte.
+BYTE_NAMES = ["SN0-3"] * 4 + ["RevNum"] * 4 + ["SN4-7"] * 4 + ["SN8"] + ["unnamed"] * 4
+BYTE_NAMES += ["CheckMacConfig", "OTPmode", "SelectorMode"]
 BYTE_NAMES += [f"SlotConfig {slot}" for slot in range(16) for _ in range(2)]
 BYTE_NAMES += [f"{name} {slot}" for slot in range(8) for name in ("UseFlag", "UpdateCount")]
 BYTE_NAMES += ["LastKeyUse"] * 16 + ["UserExtra", "Selector", "LockValue", "LockConfig"]
@@ -57,81 +97,43 @@ def meaning(block, random, result, token):
         return [f"FF: the block is damaged ({damage}); nothing changed"]
     fields = wire.fields_of(block)
     name = wire.NAMES.get(fields.opcode, f"opcode {fields.opcode:02X}")
-    conditions = asked(fields, token)
-    if result == b"\x0F" and conditions:
-        said = refusal(name, conditions)
-    else:
-        said = status(fields, result[0], token) if len(result) == 1 else content(fields, random, result, token)
+    said = status(fields, result[0]) if len(result) == 1 else content(fields, random, result, token)
     if said is None:
         raise Misfit(f"{name} does not answer `{hexadecimal(result)}`")
-    failed = [words for words, met in conditions if met is False]
-    if failed and result not in (b"\x03", b"\x0F"):
-        raise Misfit(f"{name} answers {said[0]}, and this is not met: {'; '.join(failed)}: 0F expected")
     return [f"{name} answers {said[0]}", *said[1:]]
 
 
-def refusal(name, conditions):
-    """What 0F says: the conditions that are known not to be met, else those that are not known."""
-    failed = [f"- not met: {words}" for words, met in conditions if met is False]
-    open_ones = [f"- perhaps not met: {words}" for words, met in conditions if met is None]
-    if not failed and not open_ones:
-        raise Misfit(f"{name} answers 0F, and all that it asks for is met: another answer expected")
-    return [f"0F: refused, a stated condition is not met; {EMPTIED}", *(failed or open_ones)]
-
-
-def status(fields, code, token):
+def status(fields, code):
     """What a status says, or None where the command never answers it."""
     if code == 0x03:
         if fields.opcode in wire.NAMES:
             return [f"03: refused, a field or the data's length is outside the command's shape; {EMPTIED}"]
         return [f"03: refused, an unknown opcode; {EMPTIED}"]
+    if code == 0x0F:
+        asked = CONDITIONS.get(fields.opcode) or CONDITIONS.get((fields.opcode, fields.param1 & 3))
+        return asked and [f"0F: refused, a stated condition is not met; {EMPTIED}", *(f"- {condition}" for condition in asked)]
     if code == 0x01 and fields.opcode == wire.CHECKMAC:
         return ["01: compared unequal"]
     if code == 0x00 and fields.opcode in DONE and (fields.opcode != wire.NONCE or fields.param1 == 3):
-        return [f"00: {DONE[fields.opcode]}" + unchecked(fields, token)]
+        return [f"00: {DONE[fields.opcode]}"]
     return None
-
-
-def unchecked(fields, token):
-    """Behind an accepted sum that the script's copy of the token could not work out."""
-    if fields.opcode != wire.LOCK or fields.param1 != 0x01 or not token.unknown:
-        return ""
-    return f"; only this answer tells that the sum was right, as line {min(token.unknown.values())} wrote encrypted"
-
-
-def content_length(fields):
-    """How many bytes a command answers where it is done, or None where that is a status."""
-    if fields.opcode == wire.READ:
-        place = place_of(fields.param1, fields.param2)
-        return place and place[2]
-    if fields.opcode == wire.NONCE:
-        return 32 if fields.param1 < 2 else None
-    return {wire.MAC: 32, wire.RANDOM: 32, wire.DEVREV: 4}.get(fields.opcode)
 
 
 def content(fields, random, result, token):
     """What 4 or 32 bytes are, or None where the command never answers so many."""
-    if content_length(fields) != len(result):
-        return None
     shown = hexadecimal(result)
-    if fields.opcode == wire.DEVREV:
-        agrees(REV_NUM, result, token)
+    if fields.opcode == wire.DEVREV and len(result) == 4:
         return [f"RevNum {shown}"]
-    if fields.opcode == wire.MAC:
+    if fields.opcode == wire.MAC and len(result) == 32:
         return [f"the digest {shown}"]
-    if fields.opcode == wire.READ:
-        return bytes_read(place_of(fields.param1, fields.param2), result, token)
-    said = [random_bytes(random, result, token)]
-    return said if fields.opcode == wire.RANDOM else said + ["TempKey is their digest with the input"]
-
-
-def agrees(start, row, token):
-    """Whether bytes of the configuration are those that the image and the blocks so far have left there."""
-    known = [byte if byte is not None else seen for byte, seen in zip(token.configuration[start:], row)]
-    if known != list(row):
-        seen, expected = named_bytes(start, row), named_bytes(start, known)
-        pairs = [f"{here}: {there.split()[-1]} expected" for here, there in zip(seen, expected) if here != there]
-        raise Misfit(f"this is not what the image and the blocks before have left: {'; '.join(pairs)}")
+    if fields.opcode == wire.RANDOM and len(result) == 32:
+        return [random_bytes(random, result, token)]
+    if fields.opcode == wire.NONCE and fields.param1 < 2 and len(result) == 32:
+        return [random_bytes(random, result, token), "TempKey is their digest with the input"]
+    place = place_of(fields.param1, fields.param2) if fields.opcode == wire.READ else None
+    if place and place[2] == len(result):
+        return bytes_read(place, result, token)
+    return None
 
 
 def random_bytes(random, result, token):
@@ -148,11 +150,9 @@ def bytes_read(place, result, token):
     shown = hexadecimal(result)
     if zone == 2:
         slot, word = start // 32, start % 32 // 4
-        sealed = token.slot_config(slot) & SEALED == SEALED
+        sealed = token.slot_config(slot) & 0xC0 == 0xC0
         where = f"slot {slot}" if length == 32 else f"slot {slot} word {word}"
         return [f"{where}: {shown}" + (", encrypted (XOR TempKey)" if sealed else "")]
-    if zone == 0:
-        agrees(start, result, token)
     unit = f"block {start // 32}" if length == 32 else f"word {start // 4}"
     said = [f"{ZONES[zone]} {unit}, bytes {start} to {start + length - 1}: {shown}"]
     if zone == 0 and length == 4:

@@ -8,7 +8,6 @@ from planner.zones import LOCK_VALUE
 
 ZONES = ("config", "otp", "data")
 LAST_WORD = {"config": 21, "otp": 15}
-SETTLES = "`expect 00` right below the Lock takes them as locked, `expect 0F` as unlocked"
 
 
 class Place(NamedTuple):
@@ -121,10 +120,8 @@ def write(words, token):
     words.choose("mac")
     data += words.bytes("the MAC", 32)
     # document 01: bit 6 decides while values are unlocked, and must be clear afterwards
-    locked = token.locked(LOCK_VALUE)
-    if locked is None:
-        raise Fault(f"bit 6 is set while values are unlocked, and since line {token.doubt} that is not known: {SETTLES}")
-    return Fields(wire.WRITE, where.param1() | (0 if locked else 0x40), where.word, data)
+    encrypted = 0 if token.locked(LOCK_VALUE) else 0x40
+    return Fields(wire.WRITE, where.param1() | encrypted, where.word, data)
 
 
 def lock(words, token):

@@ -4,87 +4,51 @@ from itertools import zip_longest
 
 from planner import answers
 from planner.answers import Misfit
-from planner.expects import shown
-from planner.plain import shortened
-from planner.script import LONGEST_INPUT
-from planner.words import small
 from planner.zones import Token
+
+WIDEST = 100  # a longer statement is shown by its front
 
 
 class Explanation:
-    def __init__(self, script_name, lines_name):
-        self.script_name, self.lines_name = script_name, lines_name
+    def __init__(self):
         self.text = []
-        self.complaints = []  # what does not fit, and what was expected otherwise
-        self.met = 0
+        self.complaints = []  # pairs of a line's number (None: all of them) and what does not fit
         self.token = None
 
     def run(self, script, lines):
         width = len(str(max((event.line for event in script.events), default=0)))
         for number, (event, line) in enumerate(zip_longest(script.events, lines), 1):
             if line is None:
-                self.complain(f"the lines end before {statement(event)}")
-                break
+                self.complaints.append((None, f"the lines end before `{shortened(event.text)}`, line {event.line} of the script"))
+                return
             if not event or not fits(event, line):
-                self.complain(unfit(script, event, line), number)
-                break
+                self.complaints.append((number, unfit(script, event, line)))
+                return
             self.text.append(f"{event.line:{width}}  {shortened(event.text)}")
-            self.text += [" " * (width + 6) + words for words in self.explained(event, line, number)]
-        expected = [event for event in script.events if event.expected]
-        if expected:
-            self.text.append(f"{self.met} of {len(expected)} expected answers seen")
+            try:
+                said = self.said(event, line.split()[-1])
+            except Misfit as misfit:
+                said = [f"{line}: this does not fit"]
+                self.complaints.append((number, f"{misfit} (line {event.line} of the script, `{shortened(event.text)}`)"))
+            self.text += [" " * (width + 6) + words for words in said]
 
-    def complain(self, words, number=None):
-        self.complaints.append(f"{self.lines_name}: {words}" if number is None else f"{self.lines_name}:{number}: {words}")
-
-    def explained(self, event, line, number):
-        """The words on one event; a complaint where they cannot be."""
-        answer, result, settled = line.split()[-1], None, None
-        try:
-            if answer not in ("none", "image"):
-                result = answers.unframed(bytes.fromhex(answer))
-            said = self.said(event, answer, result)
-            settled = result
-        except Misfit as misfit:
-            said = [f"{shortened(line)}: this does not fit"]
-            self.complain(f"{misfit} ({statement(event)})", number)
+    def said(self, event, answer):
         if event.kind == "image":
             self.token = Token(event.content)
-        else:
-            self.token.run(event, settled)
-        return said + self.compared(event, answer, result)
-
-    def compared(self, event, answer, result):
-        """Holds the answer to what the script expects of it."""
-        expected = event.expected
-        if not expected:
-            return []
-        if expected.met(result) and (answer == "none") == (result is None):
-            self.met += 1
-            return []
-        seen = answer if result is None else shown(result)
-        where = f"{self.script_name}:{expected.line}"
-        self.complaints.append(f"{where}: {expected.words()} expected, {shortened(seen)} seen ({statement(event)})")
-        return [f"line {expected.line} expects {expected.words()}"]
-
-    def said(self, event, answer, result):
-        if event.kind == "image":
             return ["a fresh token, asleep"]
-        power = self.token.power
-        answered = event.kind == "block" and power == "awake" or event.kind == "wake" and power != "awake"
+        before = self.token.power
+        self.token.run(event)
+        answered = event.kind == "block" and before == "awake" or event.kind == "wake" and before != "awake"
         if answered != (answer != "none"):
-            raise Misfit(f"`{shortened(answer)}`, and the token is {power}: {'an answer' if answered else '`none`'} expected")
+            raise Misfit(f"`{answer}`, and the token is {before}: {'an answer' if answered else '`none`'} expected")
         if answer == "none":
-            return ["none: " + silence(event.kind, power)]
+            return ["none: " + silence(event.kind, before)]
+        result = answers.unframed(bytes.fromhex(answer))
         if event.kind == "block":
             return answers.meaning(event.content, event.random, result, self.token)
         if result != b"\x11":
-            raise Misfit(f"`{shortened(answer)}`: status 11 expected")
-        return ["11: woken" + ("" if power == "asleep" else "; TempKey is as it was")]
-
-
-def statement(event):
-    return f"line {event.line} of the script, `{shortened(event.text)}`"
+            raise Misfit(f"`{answer}`: status 11 expected")
+        return ["11: woken" + ("" if before == "asleep" else "; TempKey is as it was")]
 
 
 def silence(kind, power):
@@ -107,15 +71,13 @@ def fits(event, line):
 def unfit(script, event, line):
     """Why a line does not belong to its place in the script."""
     if line == "too long":
-        return f"too long: the bench was given more than {LONGEST_INPUT} bytes and ran nothing; this script's records are {script.length}"
-    offset = small(line[4:], LONGEST_INPUT) if re.fullmatch("bad [0-9]+", line) else None
-    if offset is not None:
-        return f"{shortened(line)}: the bench found no whole record there and ended; " + at_offset(script, offset)
-    shown_line = f"`{shortened(line)}`"
+        return f"too long: the bench was given more than 65536 bytes and ran nothing; this script's records are {script.length}"
+    if re.fullmatch("bad [0-9]+", line):
+        return f"{line}: the bench found no whole record there and ended; " + at_offset(script, int(line[4:]))
     if not event:
-        return f"{shown_line} is one line more than the script has events"
+        return f"`{line}` is one line more than the script has events"
     expected = "image" if event.kind == "image" else f"{event.kind} .."
-    return f"{shown_line} stands where `{expected}` was expected, for {statement(event)}"
+    return f"`{line}` stands where `{expected}` was expected, for line {event.line} of the script, `{shortened(event.text)}`"
 
 
 def at_offset(script, offset):
@@ -127,3 +89,7 @@ def at_offset(script, offset):
             return f"this script has a whole record from {begin} to {end - 1}, of line {event.line}, `{shortened(event.text)}`"
         begin = end
     return f"this script's records are {begin} bytes, and something stood behind them"
+
+
+def shortened(text):
+    return text if len(text) <= WIDEST else text[: WIDEST - 3] + "..."

@@ -1,19 +1,15 @@
 """A script: its statements one by one, and the events, with their records, that they give."""
 import difflib
-from typing import NamedTuple, Optional
+from typing import NamedTuple
 
 from planner import wire
-from planner.answers import Misfit, meaning
-from planner.commands import COMMANDS, SETTLES
-from planner.expects import Expected, read_expected
-from planner.plain import quoted
-from planner.words import Fault, Words, split
+from planner.commands import COMMANDS
+from planner.words import Fault, Words
 from planner.zones import BLANK, IMAGE_LENGTH, SLOT_CONFIG, Token
 
 LONGEST_INPUT = 65_536
-MOST_FAULTS = 1_000  # the rest of the script is then not looked at
 MARKS = {"image": b"EE", "wake": b"WK", "idle": b"ID", "sleep": b"SL", "block": b"BK"}
-STATEMENTS = ["image", "set", "wake", "idle", "sleep", "expect", "block", "command", *COMMANDS]
+STATEMENTS = ["image", "set", "wake", "idle", "sleep", "block", "command", *COMMANDS]
 
 
 class Event(NamedTuple):
@@ -22,7 +18,6 @@ class Event(NamedTuple):
     kind: str  # the word that the bench's line starts with
     content: bytes  # the image or the block
     random: bytes  # the random bytes that go with a block
-    expected: Optional[Expected] = None
 
     def record(self):
         length = bytes([len(self.content)]) if self.kind == "block" else b""
@@ -40,8 +35,6 @@ class Script:
         self.length = 0
         self.random = bytes(32)
         self.token = None
-        self.unsettled = False  # whether the copy of the token still has to run the last event: an `expect` may follow
-        self.notes = []  # pairs of a line's number and what is not known from there on
 
     def add(self, line, words):
         """One statement. A Fault says what is wrong with it."""
@@ -49,13 +42,9 @@ class Script:
         words = Words(words, self.folder)
         name = words.take("a statement").lower()
         if name not in STATEMENTS:
-            near = difflib.get_close_matches(name[:20], STATEMENTS, 1)
+            near = difflib.get_close_matches(name, STATEMENTS, 1)
             hint = f"; perhaps `{near[0]}` is meant" if near else ""
-            raise Fault(f"unknown word {quoted(name)}{hint}: one of {', '.join(STATEMENTS)} expected")
-        if name == "expect":
-            self.expect(line, words)
-            return
-        self.settle()
+            raise Fault(f"unknown word `{name}`{hint}: one of {', '.join(STATEMENTS)} expected")
         if name == "image":
             self.image(line, text, words)
         elif name == "random" and words.next_is("bytes"):
@@ -77,27 +66,7 @@ class Script:
         if self.length > LONGEST_INPUT:
             raise TooLong(f"the records are {self.length} bytes with this line: up to {LONGEST_INPUT} expected by the bench")
         self.events.append(event)
-        self.unsettled = kind != "image"
-
-    def expect(self, line, words):
-        """What the answer to the event right above is to be."""
-        if not self.unsettled:
-            raise Fault("`expect` speaks of the answer to the line right above it, and no event stands there")
-        if self.events[-1].expected:
-            raise Fault(f"line {self.events[-1].expected.line} says already what is expected there")
-        expected = read_expected(words, line, self.events[-1])
-        words.end()
-        self.events[-1] = self.events[-1]._replace(expected=expected)
-
-    def settle(self):
-        if not self.unsettled:
-            return
-        self.unsettled, event = False, self.events[-1]
-        doubt = self.token.doubt
-        self.token.run(event, believed(event, self.token))
-        if self.token.doubt not in (doubt, None):
-            encrypted = min(self.token.unknown.values())
-            self.notes.append((event.line, f"line {encrypted} wrote encrypted, so whether this sum locks values is not known: {SETTLES}"))
+        self.token.run(event)
 
     def image(self, line, text, words):
         image = bytes(IMAGE_LENGTH)
@@ -131,7 +100,6 @@ class Script:
 
     def block(self, name, words):
         """The bytes that a statement sends as a block."""
-        self.settle()
         if name == "block":
             block = raw_block(words)
         elif name == "command":
@@ -145,25 +113,13 @@ class Script:
         return b"".join(event.record() for event in self.events)
 
 
-def believed(event, token):
-    """The result that the script expects of a block, where nothing that the copy of the token knows contradicts it."""
-    result = event.expected.result if event.expected else None
-    if event.kind != "block" or not result:
-        return None
-    try:
-        meaning(event.content, event.random, result, token)
-    except Misfit:
-        return None
-    return result
-
-
 def named_image(words):
     name = words.take("`zeros`, `blank` or a file")
     given = {"zeros": bytes(IMAGE_LENGTH), "blank": BLANK}.get(name.lower())
     image = words.file(name) if given is None else given
     words.end()
     if len(image) != IMAGE_LENGTH:
-        raise Fault(f"the image {quoted(name)} has {len(image)} bytes, {IMAGE_LENGTH} expected: configuration 88, OTP 64, data 512")
+        raise Fault(f"the image `{name}` has {len(image)} bytes, {IMAGE_LENGTH} expected: configuration 88, OTP 64, data 512")
     return image
 
 
@@ -191,18 +147,15 @@ def any_fields(words):
 
 def read_script(text, folder):
     """The script and what is wrong with it, as pairs of a line's number and a Fault."""
-    script, faults, wrong_above = Script(folder), [], False
+    script, faults = Script(folder), []
     for number, line in enumerate(text.split("\n"), 1):
+        words = line.split("#", 1)[0].split()
+        if not words:
+            continue
         try:
-            words = split(line)
-            # what is expected of a wrong line is not looked at
-            if words and not (wrong_above and words[0].lower() == "expect"):
-                wrong_above = False
-                script.add(number, words)
+            script.add(number, words)
         except Fault as fault:
-            wrong_above = True
             faults.append((number, fault))
-            if isinstance(fault, TooLong) or len(faults) == MOST_FAULTS:
+            if isinstance(fault, TooLong):
                 break
-    script.settle()
     return script, faults

@@ -29,16 +29,6 @@ def shown(records):
     return lines
 
 
-def looks_like_records(row):
-    """Whether the bytes begin as records do and are no text."""
-    if not row.startswith(MARKS["image"]):
-        return False
-    try:
-        return any(letter < " " and letter not in "\t\n\r" for letter in row.decode())
-    except UnicodeDecodeError:
-        return True
-
-
 def event_at(records, offset):
     kind = KINDS.get(records[offset : offset + 2])
     begin, length, random = offset + 2, 0, 0

@@ -4,17 +4,13 @@ PLAN = """\
 The planner's helper: makes the bench's records from a readable script, and
 says what the bench's lines mean.
 
-  tools/plan run SCRIPT               these three steps at once:
   tools/plan records SCRIPT > OUT     the records, to be the bench's input
   target/bin/bench < OUT > LINES      the bench runs them
   tools/plan explain SCRIPT LINES     each line beside what caused it, in words
-
   tools/plan show RECORDS             a file of records as a script
 
-Exit status: 0; 1 where lines do not fit the script or what it expects; 2 where
-the script is wrong (SCRIPT:LINE: and what was expected) or something cannot be
-read or written; 130 after Ctrl-C. docs/PLANNER.md is a page on all of it.
-Examples: examples/first.plan, examples/claim.plan.
+A wrong script gives SCRIPT:LINE: with what was expected, no output, and exit
+status 2. Examples: examples/first.plan, examples/claim.plan; docs/PLANNER.md.
 """
 
 SCRIPT = """\
@@ -32,9 +28,6 @@ the script:
   random bytes BYTES           the 32 random bytes that go with each block from
                                  here on; zeros until then
   wake | idle | sleep
-  expect none|STATUS|bytes [BYTES]       the answer to the line right above: a
-                                 status is 00, 01, 03, 0F, 11 or FF; bytes are 4
-                                 or 32, any where none are given
 
   nonce MODE BYTES             mode 0 or 1 with 20 bytes, 3 with 32
   random MODE                  mode 0 or 1
@@ -67,7 +60,7 @@ the script:
 
   BYTES: 0011AABB or 00 11 AA BB; 11*20 is 20 bytes 11; 11.. is 11 again and
   again up to the field's length; file:NAME is what a file holds. Files are
-  looked for from the script's folder; "a name #1" with blanks or # has quotes.
+  looked for from the script's folder.
 
 example:
   image zeros                  # both zones locked, all keys zero
@@ -75,19 +68,8 @@ example:
   wake
   nonce 3 11..                 # TempKey: 32 bytes 11
   mac 05 slot 3                # digest of slot 3 and TempKey
-  expect bytes
   read data slot 3 32
-  expect bytes C4..
   sleep
-"""
-
-RUN = """\
-Makes a script's records, runs the bench on them and says what its lines mean,
-as `plan records`, the bench and `plan explain` would one after the other.
-Records and lines stay in target/plan, or in DIR, as NAME.records and NAME.lines.
-The bench is target/bin/bench, which `rt check bench` proves and builds, or what
-CHHUTIROK_BENCH names. Where an answer is not what the script expects, SCRIPT:LINE:
-tells both, and the exit status is 1.
 """
 
 RECORDS = """\
@@ -112,18 +94,15 @@ statuses:
   00  done, or accepted; after CheckMac: compared equal
   01  CheckMac compared unequal
   03  refused: unknown opcode, or a field or length outside the command's shape
-  0F  refused: a stated condition is not met; those that are known not to be
-      met are listed, else those that are not known
+  0F  refused: a stated condition is not met; what the command asks is listed
   11  woken
   FF  the block is damaged; nothing changed
 
-The count and check value of each answer are looked at, whether such an answer
-can follow such a block in such a power state and under such locks, and of Read
-and DevRev the configuration's bytes. What does not fit the script goes to
-standard error as LINES:LINE: and gives exit status 1; the usual cause is that
-the lines are of another script. An answer that the script does not expect comes
-as SCRIPT:LINE:, also with status 1. `bad N` and `too long` are explained there
-too. A wrong script gives status 2, as with `records`.
+The count and check value of each answer are looked at, and whether such an
+answer can follow such a block in such a power state. What does not fit the
+script goes to standard error as LINES:LINE: and gives exit status 1; the usual
+cause is that the lines are of another script. `bad N` and `too long` are
+explained there too. A wrong script gives status 2, as with `records`.
 """
 
 SHOW = """\

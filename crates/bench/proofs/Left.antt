@@ -13,7 +13,7 @@ use Rattle.token.specs.Outcome.{fresh_of}
 use Rattle.records.specs.declared.Record.{Record}
 use Rattle.records.specs.declared.Record.TheVariants.{Image, Wake, Idle, Sleep, Block, Bad}
 use Rattle.records.specs.Records.{record_at, length_of}
-use Rattle.lines.proofs.Put.{sets_append}
+use Rattle.records.proofs.Put.{sets_append}
 use Rattle.records.proofs.Within.{record_within}
 use Rattle.bench.specs.Bench.{turn_at, after, line_at, is_bad, lines_from, lines}
 use Rattle.bench.proofs.Line.{IsTold}

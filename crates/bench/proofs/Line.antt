@@ -1,21 +1,26 @@
 -- The line that is put for a record, and what is told of it.
 use Prim.Native.Nat.{ℕ, ◌+◌, ◌-◌, ◌≤◌}
 use mathlib.Core.Path.{◌≡◌, refl, ap, sym, ◌∙◌}
-use mathlib.Core.List.{List}
+use mathlib.Core.List.{List, ◌++◌}
 use native.Mathlib.Omega.{arith}
-use lib.ListN.{length}
-use lib.Seq.{sets}
+use borrow.Author.Tests.{le-ltb}
+use lib.ListN.{length, length-append}
+use lib.Seq.{sets, take-append_seam}
 use Rattle.rules.specs.declared.Number.{Number}
 use Rattle.rules.specs.Events.{number_for, front_of}
 use Rattle.token.specs.declared.Token.{Token}
 use Rattle.token.specs.declared.Outcome.{Outcome}
 use Rattle.records.specs.declared.Record.{Record}
-use Rattle.records.specs.Records.{record_at, length_of}
-use Rattle.lines.specs.Lines.{line_of, put_length, put_output}
-use Rattle.lines.proofs.Put.{placed}
-use Rattle.demands.proofs.Calling.{front_answer}
+use Rattle.records.specs.Records.{record_at, length_of, line_of, put_length, put_output}
+use Rattle.records.proofs.Put.{placed}
 use Rattle.bench.specs.Bench.{turn_of, turn_at, after, line_at}
 use Rattle.bench.proofs.Given.{Given}
+
+-- the answer is the front part of the output after it
+front_answer : (answer rest : List ℕ) → front_of (length answer) (answer ++ rest) ≡ answer
+front_answer answer rest =
+    let long : length answer ≤ length (answer ++ rest) = simp length-append (omega arith) in
+    rw (le-ltb (length (answer ++ rest)) (length answer) long) (take-append_seam answer rest)
 
 module _ (s : Token) (input : List ℕ) (at : ℕ) where
   line_is : {what : Record} {number : Number} {answer : List ℕ} → what ≡ record_at input at → number ≡ number_for (turn_of what s input at).answer

@@ -21,9 +21,8 @@ use Rattle.token.specs.Outcome.{fresh_of}
 use Rattle.rules.proofs.Answers.{few_for}
 use Rattle.records.specs.declared.Record.{Record}
 use Rattle.records.specs.declared.Record.TheVariants.{Image, Wake, Idle, Sleep, Block, Bad}
-use Rattle.records.specs.Records.{record_at, length_of, block_at, random_at, ascii}
-use Rattle.lines.specs.Lines.{event_line, line_of, decimal, too_long}
-use Rattle.lines.proofs.Put.{length_hex}
+use Rattle.records.specs.Records.{record_at, length_of, block_at, random_at, ascii, event_line, line_of, decimal, too_long}
+use Rattle.records.proofs.Put.{length_hex}
 use Rattle.records.proofs.Within.{record_within}
 use Rattle.bench.specs.Bench.{turn_of, turn_at, after, line_at, is_bad, lines_from, lines, printed}
 use Rattle.bench.proofs.Given.{random_whole}

@@ -1,4 +1,4 @@
--- What the bench program prints, by the records of Records.antt and the lines of Lines.antt.
+-- What the bench program prints, by the records and lines of Records.antt.
 use Rattle.std.specs.Prelude.{ℕ, zero, suc, ◌+◌, Bool, true, false, List, [], ◌++◌, length, drop}
 use Rattle.wire.specs.Wire.{if◌then◌else◌}
 use Rattle.rules.specs.Words.{◌under◌, ◌up_to◌}
@@ -8,8 +8,7 @@ use Rattle.token.specs.declared.Outcome.{Outcome}
 use Rattle.token.specs.Outcome.{fresh_of}
 use Rattle.records.specs.declared.Record.{Record}
 use Rattle.records.specs.declared.Record.TheVariants.{Image, Wake, Idle, Sleep, Block, Bad}
-use Rattle.records.specs.Records.{record_at, length_of, image_at, block_at, random_at}
-use Rattle.lines.specs.Lines.{line_of, too_long}
+use Rattle.records.specs.Records.{record_at, length_of, image_at, block_at, random_at, line_of, too_long}
 
 -- What a record at an offset comes to, given the token before it: EE makes a fresh state and WK, ID, SL, BK are events. EE has no answer;
 -- a bad record has none and changes nothing.

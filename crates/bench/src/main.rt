@@ -7,7 +7,7 @@ ghost use Rattle.records.specs.Records.{record_at, length_of};
 ghost use Rattle.bench.specs.Bench.{turn_of, turn_at, after, outcome_of, in_front, line_at, lines, printed};
 
 use libc::{STDIN_FILENO, STDOUT_FILENO};
-use records::{Record, fields};
+use records::{Record, fields, lines};
 use rules::Number;
 use token::{Outcome, Token};
 

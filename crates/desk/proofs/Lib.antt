@@ -2,5 +2,4 @@
 pub mod Laid
 pub mod Calls
 pub mod RoundTrip
-pub mod Parts
 pub mod Refusals

@@ -82,7 +82,7 @@ power_there Awake = refl
 part : (p q r : List ℕ) (n m : ℕ) → length p ≡ n → length q ≡ m → take m (drop n (p ++ q ++ r)) ≡ q
 part p q r n m hp hq = rw (append_assoc p q r, drop_at p (q ++ r) n hp) (take_at q r m hq)
 
-pub behind : (p q : List ℕ) (n i : ℕ) → length p ≡ n → byte (n + i) (p ++ q) ≡ byte i q
+behind : (p q : List ℕ) (n i : ℕ) → length p ≡ n → byte (n + i) (p ++ q) ≡ byte i q
 behind p q n i h = rw (← h) (get_or-append-add p q i 0)
 
 pub loaded_saved : (t : Token) → length t.device.config ≡ 88 → length t.device.otp ≡ 64 → length t.device.«data» ≡ 512

@@ -7,10 +7,9 @@ use Rattle.rules.specs.declared.Power.TheVariants.{Asleep, Idle, Awake}
 use Rattle.rules.specs.Words.{◌is◌, ◌up_to◌, byte, bytes}
 use Rattle.rules.specs.State.{number_of, slot}
 use Rattle.rules.specs.Events.{Turn, Event, turn, output_after}
-use Rattle.blocks.specs.Blocks.{fits}
 use Rattle.token.specs.declared.Token.{Token}
 use Rattle.token.specs.declared.Outcome.{Outcome}
-use Rattle.token.specs.Outcome.{outcome, buffers_fit, refusal, fresh_of}
+use Rattle.token.specs.Outcome.{outcome, fresh_of}
 
 -- ---- which bytes are a state
 
@@ -72,7 +71,7 @@ unfoldable pub saved : Token → List ℕ
 saved t =
     t.device.config ++ t.device.otp ++ t.device.«data» ++ t.device.tempKey.bytes ++ last_six t.device.tempKey t.power
 
--- ---- an event: its number, the state and the output after it, the answer's length; where the bytes are no state nothing is changed
+-- ---- an event: its number, the state and the output after it, the answer's length; 40 where the bytes are no state, and nothing is changed
 
 abbrev pub turn_of : List ℕ → Event → List ℕ → Turn
 turn_of s e random = turn (loaded s).device (loaded s).power e random
@@ -80,12 +79,8 @@ turn_of s e random = turn (loaded s).device (loaded s).power e random
 abbrev pub outcome_of : List ℕ → Event → List ℕ → List ℕ → Outcome
 outcome_of s e random output = outcome (loaded s) (turn_of s e random) random output
 
--- 1 and 2 apply to every event and precede all else, 1 first; then 40 where the bytes are no state.
 unfoldable pub number : List ℕ → Event → List ℕ → List ℕ → ℕ
-number s e random output =
-    if buffers_fit (length random) (length output)
-    then (if is_state s then number_of (outcome_of s e random output).number else 40)
-    else number_of (refusal (length output))
+number s e random output = if is_state s then number_of (outcome_of s e random output).number else 40
 
 unfoldable pub state_after : List ℕ → Event → List ℕ → List ℕ → List ℕ
 state_after s e random output = if is_state s then saved (outcome_of s e random output).token else s
@@ -103,13 +98,3 @@ fresh_call_number image s = if length s is 702 then number_of (fresh_of image).n
 
 unfoldable pub fresh_state : List ℕ → List ℕ → List ℕ
 fresh_state image s = if length s is 702 then saved (fresh_of image).token else s
-
--- ---- a command framed as a block (crates/blocks/specs/Blocks.antt); 42 where its data does not fit
-
-unfoldable pub frame_number : List ℕ → List ℕ → ℕ
-frame_number input buffer = if fits input buffer then 0 else 42
-
--- ---- the version of this interface, CHHUTIROK_VERSION
-
-abbrev pub version : ℕ
-version = 1

@@ -1,19 +1,13 @@
-// The desk's C interface (include/chhutirok.h): a token is 702 lent bytes, which each event loads and saves; and a command as a block.
+// The desk's C interface (include/chhutirok.h): a token is 702 lent bytes, which each call loads and saves.
 ghost use Rattle.std.specs.Prelude.{◌≡◌, ◌+◌, ◌≤◌, length};
 ghost use Rattle.std.proofs.lemmas.List.Edits.{sets};
-ghost use Rattle.wire.specs.Wire.{if◌then◌else◌};
 ghost use Rattle.rules.specs.State.{number_of};
 ghost use Rattle.rules.specs.Events.{wake, idle, sleep, block};
-ghost use Rattle.blocks.specs.Blocks.{block_length, buffer_after};
-ghost use Rattle.token.specs.Outcome.{buffers_fit, refusal};
 ghost use Rattle.desk.specs.Desk.{in_range, is_state, flag_byte, power, power_byte, temp_key_in, loaded, last_six, saved};
-ghost use Rattle.desk.specs.Desk.{number, state_after, output_of, answer_length, fresh_call_number, fresh_state, frame_number, version};
+ghost use Rattle.desk.specs.Desk.{number, state_after, output_of, answer_length, fresh_call_number, fresh_state};
 
 use rules::{Device, Power, Slot, TempKey};
 use token::{Outcome, Token};
-
-// CHHUTIROK_VERSION
-const VERSION: u32 = 1;
 
 fn in_range(s: &[u8]) -> bool
     requires { length s.now ≡ 702 }
@@ -152,18 +146,12 @@ fn give(o: Outcome, state: &mut [u8], len: &mut usize) -> u32
     token::number_of(n) as u32
 }
 
-// Bytes that are no state, with so many random bytes and so many bytes of output: 1 and 2 precede 40.
-fn refuse(random: usize, output: usize, len: &mut usize) -> u32
-    ensures value { result ≡ (if buffers_fit random output then 40 else number_of (refusal output)) }
+// Bytes that are no state.
+fn refuse(len: &mut usize) -> u32
+    ensures value { result ≡ 40 }
     ensures len_after { len.new ≡ 0 }
 {
     *len = 0;
-    if output < 35 {
-        return 1;
-    }
-    if random != 32 {
-        return 2;
-    }
     40
 }
 
@@ -200,7 +188,7 @@ pub extern "C" fn chhutirok_wake(
         let o = t.wake(random, output);
         give(o, state, length)
     } else {
-        refuse(random.len(), output.len(), length)
+        refuse(length)
     }
 }
 
@@ -221,7 +209,7 @@ pub extern "C" fn chhutirok_idle(
         let o = t.idle(random, output);
         give(o, state, length)
     } else {
-        refuse(random.len(), output.len(), length)
+        refuse(length)
     }
 }
 
@@ -242,7 +230,7 @@ pub extern "C" fn chhutirok_sleep(
         let o = t.sleep(random, output);
         give(o, state, length)
     } else {
-        refuse(random.len(), output.len(), length)
+        refuse(length)
     }
 }
 
@@ -264,31 +252,6 @@ pub extern "C" fn chhutirok_block(
         let o = t.block(sent, random, output);
         give(o, state, length)
     } else {
-        refuse(random.len(), output.len(), length)
+        refuse(length)
     }
-}
-
-#[unsafe(no_mangle)]
-pub extern "C" fn chhutirok_frame(
-    opcode: u8,
-    param1: u8,
-    param2: u16,
-    input: &[u8],
-    buffer: &mut [u8],
-    length: &mut usize,
-) -> u32
-    ensures value { result ≡ frame_number input.now buffer.old }
-    ensures buffer_after { buffer.new ≡ buffer_after opcode param1 param2 input.now buffer.old }
-    ensures length_after { length.new ≡ block_length input.now buffer.old }
-{
-    let n = blocks::put_block(opcode, param1, param2, input, buffer);
-    *length = n;
-    if n == 0 { 42 } else { 0 }
-}
-
-#[unsafe(no_mangle)]
-pub extern "C" fn chhutirok_version() -> u32
-    ensures { result ≡ version }
-{
-    VERSION
 }

@@ -1,8 +1,6 @@
 -- A file for each crate, a theorem for each of its public functions.
 pub mod Fixed
-pub mod Numbers
 pub mod Address
-pub mod Blocks
 pub mod Check_mac
 pub mod Config
 pub mod Derive_key
@@ -10,7 +8,6 @@ pub mod Desk
 pub mod Digest
 pub mod Digest_c
 pub mod Gen_dig
-pub mod Lines
 pub mod Mac
 pub mod Messages
 pub mod Nonce

@@ -1,17 +1,17 @@
--- A record stays within the input.
-use Prim.Native.Nat.{ℕ, ◌-◌, ◌≤◌}
+-- A record stays within the input, and a line within the output.
+use Prim.Native.Nat.{ℕ, ◌+◌, ◌-◌, ◌≤◌}
 use mathlib.Core.Path.{◌≡◌, refl}
 use mathlib.Core.Bool.{Bool, true, false}
 use mathlib.Core.List.{List}
 use native.Mathlib.Nat.{sub-zero}
 use native.Mathlib.Omega.{arith}
-use borrow.Author.Tests.{ltb-false, eqb-true}
+use borrow.Author.Tests.{ltb-false, leb-true, eqb-true}
 use lib.ListN.{length, drop, length-drop}
 use Rattle.wire.specs.Wire.{if◌then◌else◌}
 use Rattle.rules.specs.Words.{◌is◌, ◌under◌}
 use Rattle.records.specs.declared.Record.{Record}
 use Rattle.records.specs.declared.Record.TheVariants.{Image, Wake, Idle, Sleep, Block, Bad}
-use Rattle.records.specs.Records.{announced, length_of, uncut, first, record_at}
+use Rattle.records.specs.Records.{announced, length_of, uncut, first, record_at, fits, put_length}
 
 chosen : (t : Bool) (r : Record) (n : ℕ) → (t ≡ false → length_of r ≤ n) → length_of (if t then Bad else r) ≤ n
 chosen true r n h = omega arith
@@ -39,3 +39,11 @@ record_within input at =
     either (at is 0) (first (uncut input)) (uncut (drop at input)) (length input - at)
     (λ e. let z : at ≡ 0 = eqb-true at 0 e in rw (z, sub-zero) (first_within (uncut input) (length input) (uncut_within input)))
     (rw (← length-drop at input) (uncut_within (drop at input)))
+
+fitting : (t : Bool) (n m : ℕ) → (t ≡ true → n ≤ m) → (if t then n else 0) ≤ m
+fitting true n m h = h refl
+fitting false n m h = omega arith
+
+pub put_within : (o : List ℕ) (at : ℕ) (l : List ℕ) → put_length o at l ≤ length o - at
+unfolding put_length
+put_within o at l = fitting (fits o at l) (length l) (length o - at) (λ e. let h : at + length l ≤ length o = leb-true (at + length l) (length o) e in omega arith)

@@ -1,2 +1,2 @@
--- The records that the bench program reads.
+-- The records that the bench program reads, and the lines that it prints.
 pub mod Records

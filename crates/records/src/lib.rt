@@ -1,9 +1,10 @@
-// The bench program's records, as functions on slices.
+// The bench program's records, as functions on slices; its lines are in `lines`.
 ghost use Rattle.std.specs.Prelude.{◌≡◌, ◌∷◌, [], take};
 ghost use Rattle.rules.specs.Words.{equal, byte};
 ghost use Rattle.records.specs.Records.{announced, uncut, first, length_of, record_at};
 
 pub mod fields;
+pub mod lines;
 
 // What stands at an offset of the input.
 #[derive(Drop)]

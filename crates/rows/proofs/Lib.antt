@@ -1,3 +1,2 @@
 -- Laws of rows.
 pub mod Row
-pub mod Unlike

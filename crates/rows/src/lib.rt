@@ -38,20 +38,20 @@ pub fn slot_bytes(d: Device, k: Slot) -> [u8; 32]
     row_of(&d.data, at, 32)
 }
 
-// Rows of one length are compared to their end, wherever they differ first, since a MAC that a host sends is compared here.
 pub fn equal_rows(a: &[u8], b: &[u8]) -> bool
     ensures { result ≡ equal a.now b.now }
 {
     if a.len() != b.len() {
         return false;
     }
-    let mut unlike: u8 = 0;
     let mut i: usize = 0;
     while i < a.len() {
-        unlike |= a[i] ^ b[i];
+        if a[i] != b[i] {
+            return false;
+        }
         i += 1;
     }
-    unlike == 0
+    true
 }
 
 pub fn xor_row(a: [u8; 32], b: [u8; 32]) -> [u8; 32]

@@ -18,7 +18,7 @@ fn length_fits(f: Fields, input: &[u8]) -> bool
     }
 }
 
-pub(crate) fn write_shape(f: Fields, input: &[u8]) -> bool
+pub fn write_shape(f: Fields, input: &[u8]) -> bool
     ensures { result ≡ write_shape f input.now }
 {
     config::only_bits(0xC3, f.param1) & address::address_fits(f) & length_fits(f, input)
@@ -42,7 +42,7 @@ fn slot_encrypted(c: [u8; 88], f: Fields) -> bool
     config::slot_bit(14, c, address::slot_of(f))
 }
 
-pub(crate) fn is_encrypted(c: [u8; 88], f: Fields) -> bool
+pub fn is_encrypted(c: [u8; 88], f: Fields) -> bool
     ensures { result ≡ encrypted c f }
 {
     let zone = f.param1 % 4;
@@ -107,7 +107,7 @@ fn locked_write_free(d: Device, f: Fields) -> bool
     }
 }
 
-pub(crate) fn write_free(d: Device, f: Fields, input: &[u8]) -> bool
+pub fn write_free(d: Device, f: Fields, input: &[u8]) -> bool
     ensures { result ≡ write_free d f input.now }
 {
     let c = d.config;

@@ -42,17 +42,6 @@ extern "C" {
         output_length: usize,
         length: *mut usize,
     ) -> u32;
-    fn chhutirok_frame(
-        opcode: u8,
-        param1: u8,
-        param2: u16,
-        input: *const u8,
-        input_length: usize,
-        block: *mut u8,
-        block_length: usize,
-        length: *mut usize,
-    ) -> u32;
-    fn chhutirok_version() -> u32;
 }
 
 /// What a call gives beside the bytes that it leaves: its number and the answer's length.
@@ -87,19 +76,4 @@ pub fn event(event: Event, state: &mut [u8], random: &[u8], output: &mut [u8]) -
         }
     };
     Reply { number, length }
-}
-
-/// A command as a block, put into a buffer.
-pub fn frame(opcode: u8, param1: u8, param2: u16, input: &[u8], block: &mut [u8]) -> Reply {
-    let mut length = usize::MAX;
-    let (i, i_length) = (input.as_ptr(), input.len());
-    let (b, b_length) = (block.as_mut_ptr(), block.len());
-    // SAFETY: each pointer goes with the length of its own slice, and no two slices overlap; the callee keeps none of them.
-    let number = unsafe { chhutirok_frame(opcode, param1, param2, i, i_length, b, b_length, &mut length) };
-    Reply { number, length }
-}
-
-pub fn version() -> u32 {
-    // SAFETY: it takes nothing.
-    unsafe { chhutirok_version() }
 }

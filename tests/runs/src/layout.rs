@@ -1,21 +1,12 @@
 //! The layout of the state that a caller keeps, as include/chhutirok.h says, and the independent engine's state in it.
 
-use crate::engine::{Power, Slot, TempKey, Token, SHORT_OUTPUT, WRONG_RANDOM};
+use crate::engine::{Power, Slot, TempKey, Token};
 
 pub const STATE_LENGTH: usize = 702;
 pub const IMAGE_LENGTH: usize = 664;
 
 /// The number of a state that is none.
 pub const NO_STATE: u8 = 40;
-
-/// The number of an event over bytes that are no state: 1 and 2 precede all else, 1 first.
-pub fn refusal(random: &[u8], output: &[u8]) -> u8 {
-    match (output.len(), random.len()) {
-        (0..=34, _) => SHORT_OUTPUT,
-        (_, 32) => NO_STATE,
-        _ => WRONG_RANDOM,
-    }
-}
 
 pub fn bytes_of(token: &Token) -> [u8; STATE_LENGTH] {
     let mut state = [0; STATE_LENGTH];

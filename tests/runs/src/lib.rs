@@ -12,7 +12,6 @@ pub mod host;
 pub mod images;
 pub mod keys;
 pub mod layout;
-pub mod lent;
 pub mod near;
 pub mod program;
 pub mod random;

@@ -8,7 +8,7 @@ pub mod layout;
 use std::slice::{from_raw_parts, from_raw_parts_mut};
 
 use engine::{Event, Token};
-use layout::{bytes_of, refusal, token_of, NO_STATE, STATE_LENGTH};
+use layout::{bytes_of, token_of, NO_STATE, STATE_LENGTH};
 
 /// # Safety
 /// As for C: each pointer goes with its length.
@@ -27,7 +27,7 @@ unsafe fn run(event: Event, s: *mut u8, sn: usize, r: *const u8, rn: usize, o: *
     let (state, random, output) = (from_raw_parts_mut(s, sn), from_raw_parts(r, rn), from_raw_parts_mut(o, on));
     *length = 0;
     let Some(token) = token_of(state) else {
-        return refusal(random, output).into();
+        return NO_STATE.into();
     };
     let outcome = token.event(event, random, output);
     state.copy_from_slice(&bytes_of(&outcome.token));
@@ -66,26 +66,4 @@ pub unsafe extern "C" fn chhutirok_block(
     length: *mut usize,
 ) -> u32 {
     run(Event::Block(from_raw_parts(b, bn)), s, sn, r, rn, o, on, length)
-}
-
-/// # Safety
-/// As for C: each pointer goes with its length.
-#[no_mangle]
-pub unsafe extern "C" fn chhutirok_frame(opcode: u8, param1: u8, param2: u16, i: *const u8, n: usize, b: *mut u8, bn: usize, length: *mut usize) -> u32 {
-    let (input, block) = (from_raw_parts(i, n), from_raw_parts_mut(b, bn));
-    *length = 0;
-    if input.len() > 77 || block.len() < input.len() + 7 {
-        return 42;
-    }
-    let [low, high] = param2.to_le_bytes();
-    let mut made = [&[input.len() as u8 + 7, opcode, param1, low, high], input].concat();
-    made.extend(engine::check_value(&made).to_le_bytes());
-    block[..made.len()].copy_from_slice(&made);
-    *length = made.len();
-    0
-}
-
-#[no_mangle]
-pub extern "C" fn chhutirok_version() -> u32 {
-    1
 }

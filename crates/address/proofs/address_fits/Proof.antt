@@ -8,6 +8,9 @@ use borrow.Author.Rules.{rules}
 use Rattle.address.proofs.address_fits.Statement.{statement}
 use Rattle.address.proofs.address_fits.Tie as tie
 
+word-of-requires : tie.Need-word-of-requires
+word-of-requires c κs = search rules
+
 returns : tie.Need-returns
 unfolding address_fits
 returns c =
@@ -75,4 +78,12 @@ pub address-fits-spec : {M : Type 1} → statement M
 address-fits-spec =
     tie.close
     (tie.spec
-    (λ c κs. search rules) returns returns-2 returns-3 returns-4 returns-5 returns-6 returns-7 returns-8)
+    word-of-requires
+    returns
+    returns-2
+    returns-3
+    returns-4
+    returns-5
+    returns-6
+    returns-7
+    returns-8)

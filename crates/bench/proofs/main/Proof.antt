@@ -9,6 +9,27 @@ use borrow.Author.Rules.{rules}
 use Rattle.bench.proofs.main.Statement.{statement}
 use Rattle.bench.proofs.main.Tie as tie
 
+room-for-input-requires : tie.Need-room-for-input-requires
+room-for-input-requires c κs = search rules
+
+room-for-lines-requires : tie.Need-room-for-lines-requires
+room-for-lines-requires c κs = search rules
+
+slice-aggregate-read-full : tie.Need-slice-aggregate-read-full
+slice-aggregate-read-full c = search rules
+
+read-full-requires : tie.Need-read-full-requires
+read-full-requires c κs = search rules
+
+array-share-prefix-input : tie.Need-array-share-prefix-input
+array-share-prefix-input c = search rules
+
+slice-aggregate-print : tie.Need-slice-aggregate-print
+slice-aggregate-print c = search rules
+
+slice-aggregate-print-2 : tie.Need-slice-aggregate-print-2
+slice-aggregate-print-2 c = search rules
+
 print-requires : tie.Need-print-requires
 print-requires c κs = rw c.before.before.before.before.before.room-for-lines.ensures (printed_short _)
 
@@ -24,10 +45,25 @@ slice-aggregate-write-all c =
     let all : c.before.before.print.result ≡ length (printed input) = c.before.before.print.ensures.0 in
     sym (length-take-le _ _ (omega (arith, printed_short input)))
 
+write-all-requires : tie.Need-write-all-requires
+write-all-requires c κs = search rules
+
+returns : tie.Need-returns
+returns c = search rules
+
 pub main_spec : {M : Type 1} → statement M
 main_spec =
     tie.close
     (tie.spec
-    (λ c κs. search rules) (λ c κs. search rules) (λ c. search rules) (λ c κs. search rules) (λ c. search rules)
-    (λ c. search rules) (λ c. search rules) print-requires array-share-prefix-out slice-aggregate-write-all
-    (λ c κs. search rules) (λ c. search rules))
+    room-for-input-requires
+    room-for-lines-requires
+    slice-aggregate-read-full
+    read-full-requires
+    array-share-prefix-input
+    slice-aggregate-print
+    slice-aggregate-print-2
+    print-requires
+    array-share-prefix-out
+    slice-aggregate-write-all
+    write-all-requires
+    returns)

@@ -6,8 +6,8 @@ use native.Mathlib.Omega.{arith}
 use borrow.Author.Tests.{le-leb, lt-leb}
 use lib.ListN.{length}
 use lib.Seq.{sets}
-use Rattle.lines.specs.Lines.{too_long, put_length, put_output}
-use Rattle.lines.proofs.Put.{placed}
+use Rattle.records.specs.Records.{too_long, put_length, put_output}
+use Rattle.records.proofs.Put.{placed}
 use Rattle.bench.specs.Bench.{lines, printed}
 use borrow.Author.Rules.{rules}
 use Rattle.bench.proofs.print.Statement.{statement}
@@ -31,6 +31,12 @@ put-long input out h room g =
     let long = g'.0 ∙ sym p.0 in
     (omega arith, g'.1 ∙ sym p.1)
 
+put-too-long-requires : tie.Need-put-too-long-requires
+put-too-long-requires c κs = search rules
+
+same_length : tie.Need-same-length
+same_length c = search rules
+
 returns : tie.Need-returns
 returns c =
     let x = c.before.before.before.before.before.before.before.args in
@@ -42,6 +48,9 @@ run-requires c κs =
     let e = printed-lines x.input.now (omega arith) in
     (omega arith, rw e at c.before.before.before.before.requires)
 
+same-length-2 : tie.Need-same-length-2
+same-length-2 c = search rules
+
 returns-2 : tie.Need-returns-2
 returns-2 c =
     let x = c.before.before.before.before.before.before.before.args in
@@ -49,4 +58,5 @@ returns-2 c =
 
 pub print-spec : {M : Type 1} → statement M
 print-spec =
-    tie.close (tie.spec (λ c κs. search rules) (λ c. search rules) returns run-requires (λ c. search rules) returns-2)
+    tie.close
+    (tie.spec put-too-long-requires same_length returns run-requires same-length-2 returns-2)

@@ -13,6 +13,9 @@ invariant-loop input out₀ token₀ used₀ at₀ out token used at = (at ≤ l
 abbrev decreases-loop : tie.decreases-loop
 decreases-loop input out₀ token₀ used₀ at₀ out token used at = length input - at
 
+slice-aggregate-fresh : tie.Need-slice-aggregate-fresh invariant-loop decreases-loop
+slice-aggregate-fresh c = refl
+
 fresh-requires : tie.Need-fresh-requires invariant-loop decreases-loop
 fresh-requires c κs = tt
 
@@ -54,5 +57,16 @@ pub run_spec : {M : Type 1} → statement M
 run_spec =
     tie.close
     (tie.spec
-    invariant-loop decreases-loop (λ c. refl) fresh-requires loop-holds tell-requires same_length returns add_at loop-less loop-again
-    same-length-2 returns-2)
+    invariant-loop
+    decreases-loop
+    slice-aggregate-fresh
+    fresh-requires
+    loop-holds
+    tell-requires
+    same_length
+    returns
+    add_at
+    loop-less
+    loop-again
+    same-length-2
+    returns-2)

@@ -7,11 +7,65 @@ use borrow.Author.Rules.{rules}
 use Rattle.bench.proofs.step.Statement.{statement}
 use Rattle.bench.proofs.step.Tie as tie
 
+enum_told : tie.Need-enum-told
+enum_told c = search rules
+
+image-at-requires : tie.Need-image-at-requires
+image-at-requires c κs = search rules
+
+image-requires : tie.Need-image-requires
+image-requires c κs = search rules
+
+enum-told-2 : tie.Need-enum-told-2
+enum-told-2 c = search rules
+
+slice-aggregate-wake : tie.Need-slice-aggregate-wake
+slice-aggregate-wake c = search rules
+
+wake-requires : tie.Need-wake-requires
+wake-requires c κs = search rules
+
+enum-told-3 : tie.Need-enum-told-3
+enum-told-3 c = search rules
+
+slice-aggregate-idle : tie.Need-slice-aggregate-idle
+slice-aggregate-idle c = search rules
+
+idle-requires : tie.Need-idle-requires
+idle-requires c κs = search rules
+
+enum-told-4 : tie.Need-enum-told-4
+enum-told-4 c = search rules
+
+slice-aggregate-sleep : tie.Need-slice-aggregate-sleep
+slice-aggregate-sleep c = search rules
+
+sleep-requires : tie.Need-sleep-requires
+sleep-requires c κs = search rules
+
+enum-known-what : tie.Need-enum-known-what
+enum-known-what c = search rules
+
+block-at-requires : tie.Need-block-at-requires
+block-at-requires c κs = search rules
+
+random-at-requires : tie.Need-random-at-requires
+random-at-requires c κs = search rules
+
+block-requires : tie.Need-block-requires
+block-requires c κs = search rules
+
+enum-told-5 : tie.Need-enum-told-5
+enum-told-5 c = search rules
+
 returns : tie.Need-returns
 returns c =
     let start = c.before.before.before.before.before.before in
     let x = start.args in
     image_given x.token x.input.now x.at x.output.now start.requires.1 c.before.before.enum_told.given.1 c.before.image-at.ensures c.image.ensures
+
+same_length : tie.Need-same-length
+same_length c = search rules
 
 returns-2 : tie.Need-returns-2
 returns-2 c =
@@ -19,17 +73,26 @@ returns-2 c =
     let x = start.args in
     event_given x.token x.input.now x.at x.output.now start.requires.1 Wake (zeros 32) refl c.before.before.before.before.before.enum-told2.given.1 c.before.before.wake.ensures
 
+same-length-2 : tie.Need-same-length-2
+same-length-2 c = search rules
+
 returns-3 : tie.Need-returns-3
 returns-3 c =
     let start = c.before.before.before.before.before.before.before.before.before in
     let x = start.args in
     event_given x.token x.input.now x.at x.output.now start.requires.1 Idle (zeros 32) refl c.before.before.before.before.before.enum-told3.given.1 c.before.before.idle.ensures
 
+same-length-3 : tie.Need-same-length-3
+same-length-3 c = search rules
+
 returns-4 : tie.Need-returns-4
 returns-4 c =
     let start = c.before.before.before.before.before.before.before.before.before in
     let x = start.args in
     event_given x.token x.input.now x.at x.output.now start.requires.1 Sleep (zeros 32) refl c.before.before.before.before.before.enum-told4.given.1 c.before.before.sleep.ensures
+
+same-length-4 : tie.Need-same-length-4
+same-length-4 c = search rules
 
 returns-5 : tie.Need-returns-5
 returns-5 c =
@@ -48,8 +111,30 @@ pub step_spec : {M : Type 1} → statement M
 step_spec =
     tie.close
     (tie.spec
-    (λ c. search rules) (λ c κs. search rules) (λ c κs. search rules) (λ c. search rules) (λ c. search rules)
-    (λ c κs. search rules) (λ c. search rules) (λ c. search rules) (λ c κs. search rules) (λ c. search rules)
-    (λ c. search rules) (λ c κs. search rules) (λ c. search rules) (λ c κs. search rules) (λ c κs. search rules)
-    (λ c κs. search rules) (λ c. search rules) returns (λ c. search rules) returns-2 (λ c. search rules) returns-3
-    (λ c. search rules) returns-4 (λ c. search rules) returns-5 returns-6)
+    enum_told
+    image-at-requires
+    image-requires
+    enum-told-2
+    slice-aggregate-wake
+    wake-requires
+    enum-told-3
+    slice-aggregate-idle
+    idle-requires
+    enum-told-4
+    slice-aggregate-sleep
+    sleep-requires
+    enum-known-what
+    block-at-requires
+    random-at-requires
+    block-requires
+    enum-told-5
+    returns
+    same_length
+    returns-2
+    same-length-2
+    returns-3
+    same-length-3
+    returns-4
+    same-length-4
+    returns-5
+    returns-6)

@@ -7,11 +7,41 @@ use borrow.Author.Rules.{rules}
 use Rattle.check_mac.proofs.check_mac.Statement.{statement}
 use Rattle.check_mac.proofs.check_mac.Tie as tie
 
+check-mac-shape-requires : tie.Need-check-mac-shape-requires
+check-mac-shape-requires c κs = search rules
+
+check-mac-free-requires : tie.Need-check-mac-free-requires
+check-mac-free-requires c κs = search rules
+
 check-mac-equal-requires : tie.Need-check-mac-equal-requires
 check-mac-equal-requires c κs =
     let p = c.before.before in
     let a = p.before.before.before.args in
     check_length a.f a.input.now (sym p.before.check-mac-shape.ensures ∙ p.if1.true)
+
+check-mac-key-requires : tie.Need-check-mac-key-requires
+check-mac-key-requires c κs = search rules
+
+key-of-requires : tie.Need-key-of-requires
+key-of-requires c κs = search rules
+
+draws-key-requires : tie.Need-draws-key-requires
+draws-key-requires c κs = search rules
+
+spend-use-requires : tie.Need-spend-use-requires
+spend-use-requires c κs = search rules
+
+check-mac-status-requires : tie.Need-check-mac-status-requires
+check-mac-status-requires c κs = search rules
+
+answered-requires : tie.Need-answered-requires
+answered-requires c κs = search rules
+
+said-requires : tie.Need-said-requires
+said-requires c κs = search rules
+
+said-requires-2 : tie.Need-said-requires-2
+said-requires-2 c κs = search rules
 
 returns : tie.Need-returns
 unfolding check_mac check_mac_effect key_spent
@@ -40,6 +70,17 @@ pub check-mac-spec : {M : Type 1} → statement M
 check-mac-spec =
     tie.close
     (tie.spec
-    (λ c κs. search rules) (λ c κs. search rules) check-mac-equal-requires (λ c κs. search rules) (λ c κs. search rules)
-    (λ c κs. search rules) (λ c κs. search rules) (λ c κs. search rules) (λ c κs. search rules) (λ c κs. search rules)
-    (λ c κs. search rules) returns returns-2 returns-3)
+    check-mac-shape-requires
+    check-mac-free-requires
+    check-mac-equal-requires
+    check-mac-key-requires
+    key-of-requires
+    draws-key-requires
+    spend-use-requires
+    check-mac-status-requires
+    answered-requires
+    said-requires
+    said-requires-2
+    returns
+    returns-2
+    returns-3)

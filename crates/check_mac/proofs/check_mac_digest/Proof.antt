@@ -11,6 +11,21 @@ use borrow.Author.Rules.{rules}
 use Rattle.check_mac.proofs.check_mac_digest.Statement.{statement}
 use Rattle.check_mac.proofs.check_mac_digest.Tie as tie
 
+first-row-requires : tie.Need-first-row-requires
+first-row-requires c κs = search rules
+
+row-of-requires : tie.Need-row-of-requires
+row-of-requires c κs = search rules
+
+second-row-requires : tie.Need-second-row-requires
+second-row-requires c κs = search rules
+
+row-of-requires-2 : tie.Need-row-of-requires-2
+row-of-requires-2 c κs = search rules
+
+check-mac-digest-requires : tie.Need-check-mac-digest-requires
+check-mac-digest-requires c κs = search rules
+
 returns : tie.Need-returns
 unfolding check_mac_digest
 returns c =
@@ -28,5 +43,9 @@ pub check-mac-digest-spec : {M : Type 1} → statement M
 check-mac-digest-spec =
     tie.close
     (tie.spec
-    (λ c κs. search rules) (λ c κs. search rules) (λ c κs. search rules) (λ c κs. search rules) (λ c κs. search rules)
+    first-row-requires
+    row-of-requires
+    second-row-requires
+    row-of-requires-2
+    check-mac-digest-requires
     returns)

@@ -4,6 +4,21 @@ use borrow.Author.Rules.{rules}
 use Rattle.check_mac.proofs.check_mac_key.Statement.{statement}
 use Rattle.check_mac.proofs.check_mac_key.Tie as tie
 
+copy-holds-requires : tie.Need-copy-holds-requires
+copy-holds-requires c κs = search rules
+
+copy-target-requires : tie.Need-copy-target-requires
+copy-target-requires c κs = search rules
+
+slot-bytes-requires : tie.Need-slot-bytes-requires
+slot-bytes-requires c κs = search rules
+
+taken-key-requires : tie.Need-taken-key-requires
+taken-key-requires c κs = search rules
+
+emptied-key-requires : tie.Need-emptied-key-requires
+emptied-key-requires c κs = search rules
+
 returns : tie.Need-returns
 unfolding check_mac_key
 returns c =
@@ -18,5 +33,10 @@ pub check-mac-key-spec : {M : Type 1} → statement M
 check-mac-key-spec =
     tie.close
     (tie.spec
-    (λ c κs. search rules) (λ c κs. search rules) (λ c κs. search rules) (λ c κs. search rules) (λ c κs. search rules)
-    returns returns-2)
+    copy-holds-requires
+    copy-target-requires
+    slot-bytes-requires
+    taken-key-requires
+    emptied-key-requires
+    returns
+    returns-2)

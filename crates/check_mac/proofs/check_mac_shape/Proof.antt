@@ -6,6 +6,9 @@ use borrow.Author.Rules.{rules}
 use Rattle.check_mac.proofs.check_mac_shape.Statement.{statement}
 use Rattle.check_mac.proofs.check_mac_shape.Tie as tie
 
+only-bits-requires : tie.Need-only-bits-requires
+only-bits-requires c κs = search rules
+
 returns : tie.Need-returns
 unfolding check_mac_shape
 returns c =
@@ -13,5 +16,4 @@ returns c =
     rw (c.only-bits.ensures ∙ check_mac_mask f.param1 (search rules))
 
 pub check-mac-shape-spec : {M : Type 1} → statement M
-check-mac-shape-spec =
-    tie.close (tie.spec (λ c κs. search rules) returns)
+check-mac-shape-spec = tie.close (tie.spec only-bits-requires returns)

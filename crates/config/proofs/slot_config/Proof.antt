@@ -10,6 +10,30 @@ use borrow.Author.Rules.{rules}
 use Rattle.config.proofs.slot_config.Statement.{statement}
 use Rattle.config.proofs.slot_config.Tie as tie
 
+cast-at : tie.Need-overflow-cast-at
+cast-at c = search rules
+
+mul_at : tie.Need-overflow-mul-at
+mul_at c = search rules
+
+add_at : tie.Need-overflow-add-at
+add_at c = search rules
+
+array-read-result : tie.Need-array-read-result
+array-read-result c = search rules
+
+cast-result : tie.Need-overflow-cast-result
+cast-result c = search rules
+
+add-result : tie.Need-overflow-add-result
+add-result c = search rules
+
+array-read-result-2 : tie.Need-array-read-result-2
+array-read-result-2 c = search rules
+
+cast-result-2 : tie.Need-overflow-cast-result-2
+cast-result-2 c = search rules
+
 mul-result : tie.Need-overflow-mul-result
 mul-result c =
     let a = c.before.args in
@@ -34,5 +58,14 @@ pub slot-config-spec : {M : Type 1} → statement M
 slot-config-spec =
     tie.close
     (tie.spec
-    (λ c. search rules) (λ c. search rules) (λ c. search rules) (λ c. search rules) (λ c. search rules)
-    (λ c. search rules) (λ c. search rules) (λ c. search rules) mul-result add-result-2 returns)
+    cast-at
+    mul_at
+    add_at
+    array-read-result
+    cast-result
+    add-result
+    array-read-result-2
+    cast-result-2
+    mul-result
+    add-result-2
+    returns)

@@ -4,6 +4,30 @@ use Rattle.rules.specs.DeriveKey.{derived, derive_key}
 use Rattle.derive_key.proofs.derive_key.Statement.{statement}
 use Rattle.derive_key.proofs.derive_key.Tie as tie
 
+derive-key-shape-requires : tie.Need-derive-key-shape-requires
+derive-key-shape-requires c κs = search rules
+
+derive-key-free-requires : tie.Need-derive-key-free-requires
+derive-key-free-requires c κs = search rules
+
+mac-right-requires : tie.Need-mac-right-requires
+mac-right-requires c κs = search rules
+
+derive-key-stores-requires : tie.Need-derive-key-stores-requires
+derive-key-stores-requires c κs = search rules
+
+said-requires : tie.Need-said-requires
+said-requires c κs = search rules
+
+said-requires-2 : tie.Need-said-requires-2
+said-requires-2 c κs = search rules
+
+said-requires-3 : tie.Need-said-requires-3
+said-requires-3 c κs = search rules
+
+said-requires-4 : tie.Need-said-requires-4
+said-requires-4 c κs = search rules
+
 returns : tie.Need-returns
 unfolding derived derive_key
 returns c =
@@ -40,5 +64,15 @@ pub derive-key-spec : {M : Type 1} → statement M
 derive-key-spec =
     tie.close
     (tie.spec
-    (λ c κs. search rules) (λ c κs. search rules) (λ c κs. search rules) (λ c κs. search rules) (λ c κs. search rules)
-    (λ c κs. search rules) (λ c κs. search rules) (λ c κs. search rules) returns returns-2 returns-3 returns-4)
+    derive-key-shape-requires
+    derive-key-free-requires
+    mac-right-requires
+    derive-key-stores-requires
+    said-requires
+    said-requires-2
+    said-requires-3
+    said-requires-4
+    returns
+    returns-2
+    returns-3
+    returns-4)

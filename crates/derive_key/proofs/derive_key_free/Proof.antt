@@ -4,6 +4,21 @@ use Rattle.std.proofs.Common.{rules}
 use Rattle.derive_key.proofs.derive_key_free.Statement.{statement}
 use Rattle.derive_key.proofs.derive_key_free.Tie as tie
 
+both-locked-requires : tie.Need-both-locked-requires
+both-locked-requires c κs = search rules
+
+target-bit-requires : tie.Need-target-bit-requires
+target-bit-requires c κs = search rules
+
+derive-key-temp-key-requires : tie.Need-derive-key-temp-key-requires
+derive-key-temp-key-requires c κs = search rules
+
+mac-present-requires : tie.Need-mac-present-requires
+mac-present-requires c κs = search rules
+
+derive-key-slots-requires : tie.Need-derive-key-slots-requires
+derive-key-slots-requires c κs = search rules
+
 returns : tie.Need-returns
 unfolding derive_key_free
 returns c =
@@ -14,5 +29,9 @@ pub derive-key-free-spec : {M : Type 1} → statement M
 derive-key-free-spec =
     tie.close
     (tie.spec
-    (λ c κs. search rules) (λ c κs. search rules) (λ c κs. search rules) (λ c κs. search rules) (λ c κs. search rules)
+    both-locked-requires
+    target-bit-requires
+    derive-key-temp-key-requires
+    mac-present-requires
+    derive-key-slots-requires
     returns)

@@ -5,6 +5,24 @@ use Rattle.rules.specs.DeriveKey.{derive_key_slots}
 use Rattle.derive_key.proofs.derive_key_slots.Statement.{statement}
 use Rattle.derive_key.proofs.derive_key_slots.Tie as tie
 
+parent-of-requires : tie.Need-parent-of-requires
+parent-of-requires c κs = search rules
+
+source-of-requires : tie.Need-source-of-requires
+source-of-requires c κs = search rules
+
+slot-bit-requires : tie.Need-slot-bit-requires
+slot-bit-requires c κs = search rules
+
+parent-drawn-requires : tie.Need-parent-drawn-requires
+parent-drawn-requires c κs = search rules
+
+slot-bit-requires-2 : tie.Need-slot-bit-requires-2
+slot-bit-requires-2 c κs = search rules
+
+use-left-requires : tie.Need-use-left-requires
+use-left-requires c κs = search rules
+
 returns : tie.Need-returns
 unfolding derive_key_slots
 returns c =
@@ -21,5 +39,11 @@ pub derive-key-slots-spec : {M : Type 1} → statement M
 derive-key-slots-spec =
     tie.close
     (tie.spec
-    (λ c κs. search rules) (λ c κs. search rules) (λ c κs. search rules) (λ c κs. search rules) (λ c κs. search rules)
-    (λ c κs. search rules) returns returns-2)
+    parent-of-requires
+    source-of-requires
+    slot-bit-requires
+    parent-drawn-requires
+    slot-bit-requires-2
+    use-left-requires
+    returns
+    returns-2)

@@ -5,6 +5,27 @@ use Rattle.std.proofs.Common.{rules}
 use Rattle.derive_key.proofs.derive_key_stores.Statement.{statement}
 use Rattle.derive_key.proofs.derive_key_stores.Tie as tie
 
+key-of-requires : tie.Need-key-of-requires
+key-of-requires c κs = search rules
+
+new-target-requires : tie.Need-new-target-requires
+new-target-requires c κs = search rules
+
+parent-of-requires : tie.Need-parent-of-requires
+parent-of-requires c κs = search rules
+
+parent-drawn-requires : tie.Need-parent-drawn-requires
+parent-drawn-requires c κs = search rules
+
+spend-use-requires : tie.Need-spend-use-requires
+spend-use-requires c κs = search rules
+
+store-slot-requires : tie.Need-store-slot-requires
+store-slot-requires c κs = search rules
+
+refill-requires : tie.Need-refill-requires
+refill-requires c κs = search rules
+
 returns : tie.Need-returns
 unfolding derive_key_stores
 returns c =
@@ -19,5 +40,11 @@ pub derive-key-stores-spec : {M : Type 1} → statement M
 derive-key-stores-spec =
     tie.close
     (tie.spec
-    (λ c κs. search rules) (λ c κs. search rules) (λ c κs. search rules) (λ c κs. search rules) (λ c κs. search rules)
-    (λ c κs. search rules) (λ c κs. search rules) returns)
+    key-of-requires
+    new-target-requires
+    parent-of-requires
+    parent-drawn-requires
+    spend-use-requires
+    store-slot-requires
+    refill-requires
+    returns)

@@ -4,6 +4,24 @@ use Rattle.std.proofs.Common.{rules}
 use Rattle.derive_key.proofs.mac_right.Statement.{statement}
 use Rattle.derive_key.proofs.mac_right.Tie as tie
 
+asks-mac-requires : tie.Need-asks-mac-requires
+asks-mac-requires c κs = search rules
+
+parent-of-requires : tie.Need-parent-of-requires
+parent-of-requires c κs = search rules
+
+slot-bytes-requires : tie.Need-slot-bytes-requires
+slot-bytes-requires c κs = search rules
+
+parent-digest-requires : tie.Need-parent-digest-requires
+parent-digest-requires c κs = search rules
+
+slice-aggregate-equal-rows : tie.Need-slice-aggregate-equal-rows
+slice-aggregate-equal-rows c = search rules
+
+equal-rows-requires : tie.Need-equal-rows-requires
+equal-rows-requires c κs = search rules
+
 returns : tie.Need-returns
 unfolding derive_key_mac
 returns c =
@@ -18,5 +36,11 @@ pub mac-right-spec : {M : Type 1} → statement M
 mac-right-spec =
     tie.close
     (tie.spec
-    (λ c κs. search rules) (λ c κs. search rules) (λ c κs. search rules) (λ c κs. search rules) (λ c. search rules)
-    (λ c κs. search rules) returns returns-2)
+    asks-mac-requires
+    parent-of-requires
+    slot-bytes-requires
+    parent-digest-requires
+    slice-aggregate-equal-rows
+    equal-rows-requires
+    returns
+    returns-2)

@@ -4,6 +4,18 @@ use Rattle.std.proofs.Common.{rules}
 use Rattle.derive_key.proofs.new_target.Statement.{statement}
 use Rattle.derive_key.proofs.new_target.Tie as tie
 
+source-of-requires : tie.Need-source-of-requires
+source-of-requires c κs = search rules
+
+slot-bytes-requires : tie.Need-slot-bytes-requires
+slot-bytes-requires c κs = search rules
+
+header-of-requires : tie.Need-header-of-requires
+header-of-requires c κs = search rules
+
+layout96-digest-requires : tie.Need-layout96-digest-requires
+layout96-digest-requires c κs = search rules
+
 returns : tie.Need-returns
 unfolding new_target
 returns c =
@@ -14,4 +26,8 @@ pub new-target-spec : {M : Type 1} → statement M
 new-target-spec =
     tie.close
     (tie.spec
-    (λ c κs. search rules) (λ c κs. search rules) (λ c κs. search rules) (λ c κs. search rules) returns)
+    source-of-requires
+    slot-bytes-requires
+    header-of-requires
+    layout96-digest-requires
+    returns)

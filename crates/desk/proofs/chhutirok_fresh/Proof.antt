@@ -6,6 +6,21 @@ use borrow.Author.Rules.{rules}
 use Rattle.desk.proofs.chhutirok_fresh.Statement.{statement}
 use Rattle.desk.proofs.chhutirok_fresh.Tie as tie
 
+fresh-requires : tie.Need-fresh-requires
+fresh-requires c κs = search rules
+
+save-requires : tie.Need-save-requires
+save-requires c κs = search rules
+
+number-of-requires : tie.Need-number-of-requires
+number-of-requires c κs = search rules
+
+cast-result : tie.Need-overflow-cast-result
+cast-result c = search rules
+
+same_length : tie.Need-same-length
+same_length c = search rules
+
 returns : tie.Need-returns
 unfolding fresh_call_number fresh_state
 returns c =
@@ -21,5 +36,10 @@ pub chhutirok-fresh-spec : {M : Type 1} → statement M
 chhutirok-fresh-spec =
     tie.close
     (tie.spec
-    (λ c κs. search rules) (λ c κs. search rules) (λ c κs. search rules) (λ c. search rules) (λ c. search rules) returns
+    fresh-requires
+    save-requires
+    number-of-requires
+    cast-result
+    same_length
+    returns
     returns-2)

@@ -1,4 +1,4 @@
--- `desk::chhutirok_sleep` meets its contract: an event over the bytes of a state, or number 1, 2 or 40.
+-- `desk::chhutirok_sleep` meets its contract: an event over the bytes of a state, or number 40.
 use mathlib.Core.Path.{◌≡◌, sym, ◌∙◌}
 use mathlib.Core.Bool.{true}
 use Rattle.rules.specs.Events.{sleep}
@@ -16,13 +16,28 @@ start c = c.before.before.before.before.before.before
 state : (c : tie.Then1) → is_state (start c).args.state.now ≡ true
 state c = sym c.before.is_state.ensures ∙ c.if1.true
 
+is-state-requires : tie.Need-is-state-requires
+is-state-requires c κs = search rules
+
 load-requires : tie.Need-load-requires
 load-requires c κs = let test = c.before in state_length (start test).args.state.now (state test)
+
+sleep-requires : tie.Need-sleep-requires
+sleep-requires c κs = search rules
 
 give-requires : tie.Need-give-requires
 give-requires c κs =
     let test = c.before.before.before.before.before.before.before.before in
     state_length (start test).args.state.now (state test)
+
+refuse-requires : tie.Need-refuse-requires
+refuse-requires c κs = search rules
+
+same_length : tie.Need-same-length
+same_length c = search rules
+
+same-length-2 : tie.Need-same-length-2
+same-length-2 c = search rules
 
 returns : tie.Need-returns
 returns c =
@@ -32,6 +47,9 @@ returns c =
     let test = loading.before.before in
     let a = (start test).args in
     given a.state.now sleep a.random.now a.output.now (state test) loading.load.ensures event.sleep.ensures giving.give.ensures
+
+same-length-3 : tie.Need-same-length-3
+same-length-3 c = search rules
 
 returns-2 : tie.Need-returns-2
 returns-2 c =
@@ -43,5 +61,13 @@ pub chhutirok-sleep-spec : {M : Type 1} → statement M
 chhutirok-sleep-spec =
     tie.close
     (tie.spec
-    (λ c κs. search rules) load-requires (λ c κs. search rules) give-requires (λ c κs. search rules) (λ c. search rules)
-    (λ c. search rules) returns (λ c. search rules) returns-2)
+    is-state-requires
+    load-requires
+    sleep-requires
+    give-requires
+    refuse-requires
+    same_length
+    same-length-2
+    returns
+    same-length-3
+    returns-2)

@@ -5,6 +5,9 @@ use borrow.Author.Rules.{rules}
 use Rattle.desk.proofs.is_state.Statement.{statement}
 use Rattle.desk.proofs.is_state.Tie as tie
 
+in-range-requires : tie.Need-in-range-requires
+in-range-requires c κs = search rules
+
 returns : tie.Need-returns
 unfolding is_state
 returns c = rw (eq-eqb _ _ c.before.if1.true) c.in-range.ensures
@@ -14,5 +17,4 @@ unfolding is_state
 returns-2 c = rw (ne_eqb _ _ c.if1.false)
 
 pub is-state-spec : {M : Type 1} → statement M
-is-state-spec =
-    tie.close (tie.spec (λ c κs. search rules) returns returns-2)
+is-state-spec = tie.close (tie.spec in-range-requires returns returns-2)

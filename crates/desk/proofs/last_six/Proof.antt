@@ -4,6 +4,21 @@ use borrow.Author.Rules.{rules}
 use Rattle.desk.proofs.last_six.Statement.{statement}
 use Rattle.desk.proofs.last_six.Tie as tie
 
+flag-byte-requires : tie.Need-flag-byte-requires
+flag-byte-requires c κs = search rules
+
+flag-byte-requires-2 : tie.Need-flag-byte-requires-2
+flag-byte-requires-2 c κs = search rules
+
+flag-byte-requires-3 : tie.Need-flag-byte-requires-3
+flag-byte-requires-3 c κs = search rules
+
+flag-byte-requires-4 : tie.Need-flag-byte-requires-4
+flag-byte-requires-4 c κs = search rules
+
+power-byte-requires : tie.Need-power-byte-requires
+power-byte-requires c κs = search rules
+
 returns : tie.Need-returns
 unfolding last_six
 returns c =
@@ -16,5 +31,9 @@ pub last-six-spec : {M : Type 1} → statement M
 last-six-spec =
     tie.close
     (tie.spec
-    (λ c κs. search rules) (λ c κs. search rules) (λ c κs. search rules) (λ c κs. search rules) (λ c κs. search rules)
+    flag-byte-requires
+    flag-byte-requires-2
+    flag-byte-requires-3
+    flag-byte-requires-4
+    power-byte-requires
     returns)

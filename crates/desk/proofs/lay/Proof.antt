@@ -20,6 +20,21 @@ loop-holds c =
     let a = c.args in
     (omega arith, (refl, ap (λ (n : ℕ). sets a.s.now n a.p.now) (add-zero a.at)))
 
+shared-slice-read-s : tie.Need-shared-slice-read-s invariant-loop decreases-loop
+shared-slice-read-s c = omega arith
+
+add-s : tie.Need-overflow-add-s invariant-loop decreases-loop
+add-s c = omega arith
+
+slice-write-s : tie.Need-slice-write-s invariant-loop decreases-loop
+slice-write-s c = omega arith
+
+add-i : tie.Need-overflow-add-i invariant-loop decreases-loop
+add-i c = omega arith
+
+loop-less : tie.Need-loop-smaller invariant-loop decreases-loop
+loop-less c = omega arith
+
 loop-again : tie.Need-loop-preserved invariant-loop decreases-loop
 loop-again c =
     let a = c.before.before.before.args in
@@ -39,5 +54,14 @@ pub lay-spec : {M : Type 1} → statement M
 lay-spec =
     tie.close
     (tie.spec
-    invariant-loop decreases-loop loop-holds (λ c. omega arith) (λ c. omega arith) (λ c. omega arith) (λ c. omega arith)
-    (λ c. omega arith) loop-again same_length returns)
+    invariant-loop
+    decreases-loop
+    loop-holds
+    shared-slice-read-s
+    add-s
+    slice-write-s
+    add-i
+    loop-less
+    loop-again
+    same_length
+    returns)

@@ -34,11 +34,20 @@ data-long c = search (rules, c.well_formed)
 key-long : (c : tie.Start) → length c.args.t.device.tempKey.bytes ≡ 32
 key-long c = search (rules, c.well_formed.1.0.1.1.0.1.1.1)
 
+slice-aggregate-lay : tie.Need-slice-aggregate-lay
+slice-aggregate-lay c = search rules
+
 lay-requires : tie.Need-lay-requires
 lay-requires c κs = omega (arith, config-long c.before.before.before.before.before)
 
+slice-aggregate-lay-2 : tie.Need-slice-aggregate-lay-2
+slice-aggregate-lay-2 c = search rules
+
 lay-requires-2 : tie.Need-lay-requires-2
 lay-requires-2 c κs = omega (arith, otp-long (entry₁ c.before.before.before.before.before))
+
+slice-aggregate-lay-3 : tie.Need-slice-aggregate-lay-3
+slice-aggregate-lay-3 c = search rules
 
 lay-requires-3 : tie.Need-lay-requires-3
 lay-requires-3 c κs = omega (arith, data-long (entry₂ c.before.before.before.before.before))
@@ -48,6 +57,18 @@ slice-aggregate-lay-4 c = omega (arith, key-long (entry₃ c.before.before.befor
 
 lay-requires-4 : tie.Need-lay-requires-4
 lay-requires-4 c κs = omega (arith, key-long (entry₃ c.before.before.before.before.before.before))
+
+last-six-requires : tie.Need-last-six-requires
+last-six-requires c κs = search rules
+
+slice-aggregate-lay-5 : tie.Need-slice-aggregate-lay-5
+slice-aggregate-lay-5 c = search rules
+
+lay-requires-5 : tie.Need-lay-requires-5
+lay-requires-5 c κs = search rules
+
+same_length : tie.Need-same-length
+same_length c = search rules
 
 returns : tie.Need-returns
 unfolding saved
@@ -70,6 +91,16 @@ pub save-spec : {M : Type 1} → statement M
 save-spec =
     tie.close
     (tie.spec
-    (λ c. search rules) lay-requires (λ c. search rules) lay-requires-2 (λ c. search rules) lay-requires-3
-    slice-aggregate-lay-4 lay-requires-4 (λ c κs. search rules) (λ c. search rules) (λ c κs. search rules)
-    (λ c. search rules) returns)
+    slice-aggregate-lay
+    lay-requires
+    slice-aggregate-lay-2
+    lay-requires-2
+    slice-aggregate-lay-3
+    lay-requires-3
+    slice-aggregate-lay-4
+    lay-requires-4
+    last-six-requires
+    slice-aggregate-lay-5
+    lay-requires-5
+    same_length
+    returns)

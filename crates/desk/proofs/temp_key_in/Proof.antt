@@ -8,6 +8,24 @@ use borrow.Author.Rules.{rules}
 use Rattle.desk.proofs.temp_key_in.Statement.{statement}
 use Rattle.desk.proofs.temp_key_in.Tie as tie
 
+row-of-requires : tie.Need-row-of-requires
+row-of-requires c κs = search rules
+
+shared-slice-read-t4 : tie.Need-shared-slice-read-t4
+shared-slice-read-t4 c = search rules
+
+shared-slice-read-t7 : tie.Need-shared-slice-read-t7
+shared-slice-read-t7 c = search rules
+
+shared-slice-read-t10 : tie.Need-shared-slice-read-t10
+shared-slice-read-t10 c = search rules
+
+shared-slice-read-t13 : tie.Need-shared-slice-read-t13
+shared-slice-read-t13 c = search rules
+
+shared-slice-read-t16 : tie.Need-shared-slice-read-t16
+shared-slice-read-t16 c = search rules
+
 returns : tie.Need-returns
 unfolding temp_key_in
 returns c =
@@ -21,5 +39,10 @@ pub temp-key-in-spec : {M : Type 1} → statement M
 temp-key-in-spec =
     tie.close
     (tie.spec
-    (λ c κs. search rules) (λ c. search rules) (λ c. search rules) (λ c. search rules) (λ c. search rules)
-    (λ c. search rules) returns)
+    row-of-requires
+    shared-slice-read-t4
+    shared-slice-read-t7
+    shared-slice-read-t10
+    shared-slice-read-t13
+    shared-slice-read-t16
+    returns)

@@ -12,6 +12,30 @@ invariant-loop m i b₀ j₀ b j = (j ≤ 16) × (length b ≡ 16) × (take j b 
 abbrev decreases-loop : tie.decreases-loop
 decreases-loop m i b₀ j₀ b j = 16 - j
 
+loop-holds : tie.Need-loop-init invariant-loop decreases-loop
+loop-holds c = search rules
+
+mul-word-at : tie.Need-overflow-mul-word-at invariant-loop decreases-loop
+mul-word-at c = search rules
+
+add-word-at : tie.Need-overflow-add-word-at invariant-loop decreases-loop
+add-word-at c = search rules
+
+word-at-requires : tie.Need-word-at-requires invariant-loop decreases-loop
+word-at-requires c κs = search rules
+
+mul-b : tie.Need-overflow-mul-b invariant-loop decreases-loop
+mul-b c = search rules
+
+array-write-b : tie.Need-array-write-b invariant-loop decreases-loop
+array-write-b c = search rules
+
+add-j : tie.Need-overflow-add-j invariant-loop decreases-loop
+add-j c = search rules
+
+loop-less : tie.Need-loop-smaller invariant-loop decreases-loop
+loop-less c = search rules
+
 loop-again : tie.Need-loop-preserved invariant-loop decreases-loop
 loop-again c =
     let start = c.before.before.before.before in
@@ -37,5 +61,15 @@ pub block_spec : {M : Type 1} → statement M
 block_spec =
     tie.close
     (tie.spec
-    invariant-loop decreases-loop (λ c. search rules) (λ c. search rules) (λ c. search rules) (λ c κs. search rules)
-    (λ c. search rules) (λ c. search rules) (λ c. search rules) (λ c. search rules) loop-again returns)
+    invariant-loop
+    decreases-loop
+    loop-holds
+    mul-word-at
+    add-word-at
+    word-at-requires
+    mul-b
+    array-write-b
+    add-j
+    loop-less
+    loop-again
+    returns)

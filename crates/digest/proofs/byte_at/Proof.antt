@@ -4,6 +4,9 @@ use Rattle.digest.proofs.PaddingLaws.{end_is, pad_in, pad_one, pad_zero}
 use Rattle.digest.proofs.byte_at.Statement.{statement}
 use Rattle.digest.proofs.byte_at.Tie as tie
 
+shared-slice-read-result : tie.Need-shared-slice-read-result
+shared-slice-read-result c = search rules
+
 returns : tie.Need-returns
 returns c =
     let a = c.before.before.args in
@@ -20,5 +23,4 @@ returns-3 c =
     pad_zero a.m.now a.i (omega arith) (omega (arith, end_is (length a.m.now)))
 
 pub byte-at-spec : {M : Type 1} → statement M
-byte-at-spec =
-    tie.close (tie.spec (λ c. search rules) returns returns-2 returns-3)
+byte-at-spec = tie.close (tie.spec shared-slice-read-result returns returns-2 returns-3)

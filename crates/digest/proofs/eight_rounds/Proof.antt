@@ -17,11 +17,50 @@ entry₆ c = entry₅ c.before.before.before
 abbrev entry₇ : tie.After-round7 → tie.Start
 entry₇ c = entry₆ c.before.before.before
 
+shared-slice-read-round : tie.Need-shared-slice-read-round
+shared-slice-read-round c = search rules
+
+shared-slice-read-round-2 : tie.Need-shared-slice-read-round-2
+shared-slice-read-round-2 c = search rules
+
+round-requires : tie.Need-round-requires
+round-requires c κs = search rules
+
+shared-slice-read-round-3 : tie.Need-shared-slice-read-round-3
+shared-slice-read-round-3 c = search rules
+
+shared-slice-read-round-4 : tie.Need-shared-slice-read-round-4
+shared-slice-read-round-4 c = search rules
+
+round-requires-2 : tie.Need-round-requires-2
+round-requires-2 c κs = search rules
+
+shared-slice-read-round-5 : tie.Need-shared-slice-read-round-5
+shared-slice-read-round-5 c = search rules
+
+shared-slice-read-round-6 : tie.Need-shared-slice-read-round-6
+shared-slice-read-round-6 c = search rules
+
+round-requires-3 : tie.Need-round-requires-3
+round-requires-3 c κs = search rules
+
+shared-slice-read-round-7 : tie.Need-shared-slice-read-round-7
+shared-slice-read-round-7 c = search rules
+
+shared-slice-read-round-8 : tie.Need-shared-slice-read-round-8
+shared-slice-read-round-8 c = search rules
+
+round-requires-4 : tie.Need-round-requires-4
+round-requires-4 c κs = search rules
+
 shared-slice-read-round-9 : tie.Need-shared-slice-read-round-9
 shared-slice-read-round-9 c = omega (arith, (entry₄ c.before).requires)
 
 shared-slice-read-round-10 : tie.Need-shared-slice-read-round-10
 shared-slice-read-round-10 c = omega (arith, (entry₄ c.before.before).requires)
+
+round-requires-5 : tie.Need-round-requires-5
+round-requires-5 c κs = search rules
 
 shared-slice-read-round-11 : tie.Need-shared-slice-read-round-11
 shared-slice-read-round-11 c = omega (arith, (entry₅ c.before).requires)
@@ -29,17 +68,26 @@ shared-slice-read-round-11 c = omega (arith, (entry₅ c.before).requires)
 shared-slice-read-round-12 : tie.Need-shared-slice-read-round-12
 shared-slice-read-round-12 c = omega (arith, (entry₅ c.before.before).requires)
 
+round-requires-6 : tie.Need-round-requires-6
+round-requires-6 c κs = search rules
+
 shared-slice-read-round-13 : tie.Need-shared-slice-read-round-13
 shared-slice-read-round-13 c = omega (arith, (entry₆ c.before).requires)
 
 shared-slice-read-round-14 : tie.Need-shared-slice-read-round-14
 shared-slice-read-round-14 c = omega (arith, (entry₆ c.before.before).requires)
 
+round-requires-7 : tie.Need-round-requires-7
+round-requires-7 c κs = search rules
+
 shared-slice-read-round-15 : tie.Need-shared-slice-read-round-15
 shared-slice-read-round-15 c = omega (arith, (entry₇ c.before).requires)
 
 shared-slice-read-round-16 : tie.Need-shared-slice-read-round-16
 shared-slice-read-round-16 c = omega (arith, (entry₇ c.before.before).requires)
+
+round-requires-8 : tie.Need-round-requires-8
+round-requires-8 c κs = search rules
 
 returns : tie.Need-returns
 returns c =
@@ -59,9 +107,28 @@ pub eight-rounds-spec : {M : Type 1} → statement M
 eight-rounds-spec =
     tie.close
     (tie.spec
-    (λ c. search rules) (λ c. search rules) (λ c κs. search rules) (λ c. search rules) (λ c. search rules)
-    (λ c κs. search rules) (λ c. search rules) (λ c. search rules) (λ c κs. search rules) (λ c. search rules)
-    (λ c. search rules) (λ c κs. search rules) shared-slice-read-round-9 shared-slice-read-round-10
-    (λ c κs. search rules) shared-slice-read-round-11 shared-slice-read-round-12 (λ c κs. search rules)
-    shared-slice-read-round-13 shared-slice-read-round-14 (λ c κs. search rules) shared-slice-read-round-15
-    shared-slice-read-round-16 (λ c κs. search rules) returns)
+    shared-slice-read-round
+    shared-slice-read-round-2
+    round-requires
+    shared-slice-read-round-3
+    shared-slice-read-round-4
+    round-requires-2
+    shared-slice-read-round-5
+    shared-slice-read-round-6
+    round-requires-3
+    shared-slice-read-round-7
+    shared-slice-read-round-8
+    round-requires-4
+    shared-slice-read-round-9
+    shared-slice-read-round-10
+    round-requires-5
+    shared-slice-read-round-11
+    shared-slice-read-round-12
+    round-requires-6
+    shared-slice-read-round-13
+    shared-slice-read-round-14
+    round-requires-7
+    shared-slice-read-round-15
+    shared-slice-read-round-16
+    round-requires-8
+    returns)

@@ -4,6 +4,30 @@ use Rattle.digest.proofs.OutputLaws.{output_law}
 use Rattle.digest.proofs.output.Statement.{statement}
 use Rattle.digest.proofs.output.Tie as tie
 
+put-requires : tie.Need-put-requires
+put-requires c κs = search rules
+
+put-requires-2 : tie.Need-put-requires-2
+put-requires-2 c κs = search rules
+
+put-requires-3 : tie.Need-put-requires-3
+put-requires-3 c κs = search rules
+
+put-requires-4 : tie.Need-put-requires-4
+put-requires-4 c κs = search rules
+
+put-requires-5 : tie.Need-put-requires-5
+put-requires-5 c κs = search rules
+
+put-requires-6 : tie.Need-put-requires-6
+put-requires-6 c κs = search rules
+
+put-requires-7 : tie.Need-put-requires-7
+put-requires-7 c κs = search rules
+
+put-requires-8 : tie.Need-put-requires-8
+put-requires-8 c κs = search rules
+
 returns : tie.Need-returns
 returns c =
     let r = c.put8.result in
@@ -18,5 +42,12 @@ pub output-spec : {M : Type 1} → statement M
 output-spec =
     tie.close
     (tie.spec
-    (λ c κs. search rules) (λ c κs. search rules) (λ c κs. search rules) (λ c κs. search rules) (λ c κs. search rules)
-    (λ c κs. search rules) (λ c κs. search rules) (λ c κs. search rules) returns)
+    put-requires
+    put-requires-2
+    put-requires-3
+    put-requires-4
+    put-requires-5
+    put-requires-6
+    put-requires-7
+    put-requires-8
+    returns)

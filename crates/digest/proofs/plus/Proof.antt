@@ -4,6 +4,30 @@ use Rattle.digest.specs.Sha256.{plus}
 use Rattle.digest.proofs.plus.Statement.{statement}
 use Rattle.digest.proofs.plus.Tie as tie
 
+wrapping-add-u32-requires : tie.Need-wrapping-add-u32-requires
+wrapping-add-u32-requires c κs = search rules
+
+wrapping-add-u32-requires-2 : tie.Need-wrapping-add-u32-requires-2
+wrapping-add-u32-requires-2 c κs = search rules
+
+wrapping-add-u32-requires-3 : tie.Need-wrapping-add-u32-requires-3
+wrapping-add-u32-requires-3 c κs = search rules
+
+wrapping-add-u32-requires-4 : tie.Need-wrapping-add-u32-requires-4
+wrapping-add-u32-requires-4 c κs = search rules
+
+wrapping-add-u32-requires-5 : tie.Need-wrapping-add-u32-requires-5
+wrapping-add-u32-requires-5 c κs = search rules
+
+wrapping-add-u32-requires-6 : tie.Need-wrapping-add-u32-requires-6
+wrapping-add-u32-requires-6 c κs = search rules
+
+wrapping-add-u32-requires-7 : tie.Need-wrapping-add-u32-requires-7
+wrapping-add-u32-requires-7 c κs = search rules
+
+wrapping-add-u32-requires-8 : tie.Need-wrapping-add-u32-requires-8
+wrapping-add-u32-requires-8 c κs = search rules
+
 returns : tie.Need-returns
 unfolding plus
 returns c = cc
@@ -12,5 +36,12 @@ pub plus-spec : {M : Type 1} → statement M
 plus-spec =
     tie.close
     (tie.spec
-    (λ c κs. search rules) (λ c κs. search rules) (λ c κs. search rules) (λ c κs. search rules) (λ c κs. search rules)
-    (λ c κs. search rules) (λ c κs. search rules) (λ c κs. search rules) returns)
+    wrapping-add-u32-requires
+    wrapping-add-u32-requires-2
+    wrapping-add-u32-requires-3
+    wrapping-add-u32-requires-4
+    wrapping-add-u32-requires-5
+    wrapping-add-u32-requires-6
+    wrapping-add-u32-requires-7
+    wrapping-add-u32-requires-8
+    returns)

@@ -11,6 +11,48 @@ invariant-loop k w s₀ t₀ s t = (t ≤ 64) × (t % 8 ≡ 0) × (rounds (drop 
 abbrev decreases-loop : tie.decreases-loop
 decreases-loop k w s₀ t₀ s t = 64 - t
 
+loop-holds : tie.Need-loop-init invariant-loop decreases-loop
+loop-holds c = search rules
+
+add-eight-rounds : tie.Need-overflow-add-eight-rounds invariant-loop decreases-loop
+add-eight-rounds c = search rules
+
+mul-eight-rounds : tie.Need-overflow-mul-eight-rounds invariant-loop decreases-loop
+mul-eight-rounds c = search rules
+
+sub-eight-rounds : tie.Need-overflow-sub-eight-rounds invariant-loop decreases-loop
+sub-eight-rounds c = search rules
+
+part-eight-rounds-start : tie.Need-slice-bounds-eight-rounds-start invariant-loop decreases-loop
+part-eight-rounds-start c = search rules
+
+part-eight-rounds-end : tie.Need-slice-bounds-eight-rounds-end invariant-loop decreases-loop
+part-eight-rounds-end c = search rules
+
+add-eight-rounds-2 : tie.Need-overflow-add-eight-rounds-2 invariant-loop decreases-loop
+add-eight-rounds-2 c = search rules
+
+mul-eight-rounds-2 : tie.Need-overflow-mul-eight-rounds-2 invariant-loop decreases-loop
+mul-eight-rounds-2 c = search rules
+
+sub-eight-rounds-2 : tie.Need-overflow-sub-eight-rounds-2 invariant-loop decreases-loop
+sub-eight-rounds-2 c = search rules
+
+part-eight-rounds-start-2 : tie.Need-slice-bounds-eight-rounds-start-2 invariant-loop decreases-loop
+part-eight-rounds-start-2 c = search rules
+
+part-eight-rounds-end-2 : tie.Need-slice-bounds-eight-rounds-end-2 invariant-loop decreases-loop
+part-eight-rounds-end-2 c = search rules
+
+eight-rounds-requires : tie.Need-eight-rounds-requires invariant-loop decreases-loop
+eight-rounds-requires c κs = search rules
+
+add-t : tie.Need-overflow-add-t invariant-loop decreases-loop
+add-t c = search rules
+
+loop-less : tie.Need-loop-smaller invariant-loop decreases-loop
+loop-less c = search rules
+
 loop-again : tie.Need-loop-preserved invariant-loop decreases-loop
 loop-again c =
     let turn = c.before.before.before.before in
@@ -27,6 +69,21 @@ pub rounds-spec : {M : Type 1} → statement M
 rounds-spec =
     tie.close
     (tie.spec
-    invariant-loop decreases-loop (λ c. search rules) (λ c. search rules) (λ c. search rules) (λ c. search rules) (λ c. search rules)
-    (λ c. search rules) (λ c. search rules) (λ c. search rules) (λ c. search rules) (λ c. search rules)
-    (λ c. search rules) (λ c κs. search rules) (λ c. search rules) (λ c. search rules) loop-again returns)
+    invariant-loop
+    decreases-loop
+    loop-holds
+    add-eight-rounds
+    mul-eight-rounds
+    sub-eight-rounds
+    part-eight-rounds-start
+    part-eight-rounds-end
+    add-eight-rounds-2
+    mul-eight-rounds-2
+    sub-eight-rounds-2
+    part-eight-rounds-start-2
+    part-eight-rounds-end-2
+    eight-rounds-requires
+    add-t
+    loop-less
+    loop-again
+    returns)

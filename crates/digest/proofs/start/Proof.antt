@@ -4,6 +4,30 @@ use Rattle.digest.specs.Sha256.{H0}
 use Rattle.digest.proofs.start.Statement.{statement}
 use Rattle.digest.proofs.start.Tie as tie
 
+array-read-t4 : tie.Need-array-read-t4
+array-read-t4 c = search rules
+
+array-read-t8 : tie.Need-array-read-t8
+array-read-t8 c = search rules
+
+array-read-t12 : tie.Need-array-read-t12
+array-read-t12 c = search rules
+
+array-read-t16 : tie.Need-array-read-t16
+array-read-t16 c = search rules
+
+array-read-t20 : tie.Need-array-read-t20
+array-read-t20 c = search rules
+
+array-read-t24 : tie.Need-array-read-t24
+array-read-t24 c = search rules
+
+array-read-t28 : tie.Need-array-read-t28
+array-read-t28 c = search rules
+
+array-read-t32 : tie.Need-array-read-t32
+array-read-t32 c = search rules
+
 returns : tie.Need-returns
 unfolding H0
 returns c = refl
@@ -12,5 +36,12 @@ pub start_spec : {M : Type 1} → statement M
 start_spec =
     tie.close
     (tie.spec
-    (λ c. search rules) (λ c. search rules) (λ c. search rules) (λ c. search rules) (λ c. search rules)
-    (λ c. search rules) (λ c. search rules) (λ c. search rules) returns)
+    array-read-t4
+    array-read-t8
+    array-read-t12
+    array-read-t16
+    array-read-t20
+    array-read-t24
+    array-read-t28
+    array-read-t32
+    returns)

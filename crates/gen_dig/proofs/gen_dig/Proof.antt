@@ -5,10 +5,31 @@ use borrow.Author.Rules.{rules}
 use Rattle.gen_dig.proofs.gen_dig.Statement.{statement}
 use Rattle.gen_dig.proofs.gen_dig.Tie as tie
 
+gen-dig-shape-requires : tie.Need-gen-dig-shape-requires
+gen-dig-shape-requires c κs = search rules
+
+gen-dig-free-requires : tie.Need-gen-dig-free-requires
+gen-dig-free-requires c κs = search rules
+
 gen-dig-key-requires : tie.Need-gen-dig-key-requires
 gen-dig-key-requires c κs =
     let p = c.before.before in
     sym p.before.gen-dig-shape.ensures ∙ p.if1.true
+
+key-of-requires : tie.Need-key-of-requires
+key-of-requires c κs = search rules
+
+spend-use-requires : tie.Need-spend-use-requires
+spend-use-requires c κs = search rules
+
+answered-requires : tie.Need-answered-requires
+answered-requires c κs = search rules
+
+said-requires : tie.Need-said-requires
+said-requires c κs = search rules
+
+said-requires-2 : tie.Need-said-requires-2
+said-requires-2 c κs = search rules
 
 returns : tie.Need-returns
 unfolding gen_dig gen_dig_spent
@@ -36,5 +57,14 @@ pub gen-dig-spec : {M : Type 1} → statement M
 gen-dig-spec =
     tie.close
     (tie.spec
-    (λ c κs. search rules) (λ c κs. search rules) gen-dig-key-requires (λ c κs. search rules) (λ c κs. search rules)
-    (λ c κs. search rules) (λ c κs. search rules) (λ c κs. search rules) returns returns-2 returns-3)
+    gen-dig-shape-requires
+    gen-dig-free-requires
+    gen-dig-key-requires
+    key-of-requires
+    spend-use-requires
+    answered-requires
+    said-requires
+    said-requires-2
+    returns
+    returns-2
+    returns-3)

@@ -7,6 +7,15 @@ use borrow.Author.Rules.{rules}
 use Rattle.gen_dig.proofs.gen_dig_free.Statement.{statement}
 use Rattle.gen_dig.proofs.gen_dig_free.Tie as tie
 
+config-locked-requires : tie.Need-config-locked-requires
+config-locked-requires c κs = search rules
+
+key-of-requires : tie.Need-key-of-requires
+key-of-requires c κs = search rules
+
+use-left-requires : tie.Need-use-left-requires
+use-left-requires c κs = search rules
+
 returns : tie.Need-returns
 unfolding gen_dig_free
 returns c =
@@ -19,4 +28,4 @@ returns-2 c = rw (ne_eqb _ _ c.if1.false, c.before.before.before.config-locked.e
 
 pub gen-dig-free-spec : {M : Type 1} → statement M
 gen-dig-free-spec =
-    tie.close (tie.spec (λ c κs. search rules) (λ c κs. search rules) (λ c κs. search rules) returns returns-2)
+    tie.close (tie.spec config-locked-requires key-of-requires use-left-requires returns returns-2)

@@ -8,6 +8,24 @@ use borrow.Author.Rules.{rules}
 use Rattle.gen_dig.proofs.gen_dig_value.Statement.{statement}
 use Rattle.gen_dig.proofs.gen_dig_value.Tie as tie
 
+cast-at : tie.Need-overflow-cast-at
+cast-at c = search rules
+
+mul_at : tie.Need-overflow-mul-at
+mul_at c = search rules
+
+row-of-requires : tie.Need-row-of-requires
+row-of-requires c κs = search rules
+
+row-of-requires-2 : tie.Need-row-of-requires-2
+row-of-requires-2 c κs = search rules
+
+key-of-requires : tie.Need-key-of-requires
+key-of-requires c κs = search rules
+
+slot-bytes-requires : tie.Need-slot-bytes-requires
+slot-bytes-requires c κs = search rules
+
 returns : tie.Need-returns
 unfolding gen_dig_value
 returns c =
@@ -34,5 +52,12 @@ pub gen-dig-value-spec : {M : Type 1} → statement M
 gen-dig-value-spec =
     tie.close
     (tie.spec
-    (λ c. search rules) (λ c. search rules) (λ c κs. search rules) (λ c κs. search rules) (λ c κs. search rules)
-    (λ c κs. search rules) returns returns-2 returns-3)
+    cast-at
+    mul_at
+    row-of-requires
+    row-of-requires-2
+    key-of-requires
+    slot-bytes-requires
+    returns
+    returns-2
+    returns-3)

@@ -7,8 +7,32 @@ use borrow.Author.Rules.{rules}
 use Rattle.mac.proofs.mac.Statement.{statement}
 use Rattle.mac.proofs.mac.Tie as tie
 
+mac-shape-requires : tie.Need-mac-shape-requires
+mac-shape-requires c κs = search rules
+
+mac-free-requires : tie.Need-mac-free-requires
+mac-free-requires c κs = search rules
+
 mac-digest-requires : tie.Need-mac-digest-requires
 mac-digest-requires c κs = sym c.before.before.before.mac-shape.ensures ∙ c.before.before.if1.true
+
+key-of-requires : tie.Need-key-of-requires
+key-of-requires c κs = search rules
+
+draws-key-requires : tie.Need-draws-key-requires
+draws-key-requires c κs = search rules
+
+spend-use-requires : tie.Need-spend-use-requires
+spend-use-requires c κs = search rules
+
+ended-requires : tie.Need-ended-requires
+ended-requires c κs = search rules
+
+said-requires : tie.Need-said-requires
+said-requires c κs = search rules
+
+said-requires-2 : tie.Need-said-requires-2
+said-requires-2 c κs = search rules
 
 returns : tie.Need-returns
 unfolding mac key_spent
@@ -36,6 +60,15 @@ pub mac-spec : {M : Type 1} → statement M
 mac-spec =
     tie.close
     (tie.spec
-    (λ c κs. search rules) (λ c κs. search rules) mac-digest-requires (λ c κs. search rules) (λ c κs. search rules)
-    (λ c κs. search rules) (λ c κs. search rules) (λ c κs. search rules) (λ c κs. search rules) returns returns-2
+    mac-shape-requires
+    mac-free-requires
+    mac-digest-requires
+    key-of-requires
+    draws-key-requires
+    spend-use-requires
+    ended-requires
+    said-requires
+    said-requires-2
+    returns
+    returns-2
     returns-3)

@@ -5,6 +5,18 @@ use borrow.Author.Rules.{rules}
 use Rattle.mac.proofs.mac_digest.Statement.{statement}
 use Rattle.mac.proofs.mac_digest.Tie as tie
 
+first-row-requires : tie.Need-first-row-requires
+first-row-requires c κs = search rules
+
+row-of-requires : tie.Need-row-of-requires
+row-of-requires c κs = search rules
+
+second-row-requires : tie.Need-second-row-requires
+second-row-requires c κs = search rules
+
+mac-digest-requires : tie.Need-mac-digest-requires
+mac-digest-requires c κs = search rules
+
 returns : tie.Need-returns
 unfolding mac_digest
 returns c =
@@ -16,5 +28,4 @@ returns c =
 pub mac-digest-spec : {M : Type 1} → statement M
 mac-digest-spec =
     tie.close
-    (tie.spec
-    (λ c κs. search rules) (λ c κs. search rules) (λ c κs. search rules) (λ c κs. search rules) returns)
+    (tie.spec first-row-requires row-of-requires second-row-requires mac-digest-requires returns)

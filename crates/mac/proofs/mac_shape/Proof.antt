@@ -8,6 +8,9 @@ use borrow.Author.Rules.{rules}
 use Rattle.mac.proofs.mac_shape.Statement.{statement}
 use Rattle.mac.proofs.mac_shape.Tie as tie
 
+only-bits-requires : tie.Need-only-bits-requires
+only-bits-requires c κs = search rules
+
 returns : tie.Need-returns
 unfolding mac_shape
 returns c =
@@ -21,5 +24,4 @@ returns-2 c =
     rw (div-one, ne_eqb _ _ c.if1.false, c.before.before.only-bits.ensures ∙ mac_mask f.param1 (search rules))
 
 pub mac-shape-spec : {M : Type 1} → statement M
-mac-shape-spec =
-    tie.close (tie.spec (λ c κs. search rules) returns returns-2)
+mac-shape-spec = tie.close (tie.spec only-bits-requires returns returns-2)

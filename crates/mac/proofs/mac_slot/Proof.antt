@@ -5,6 +5,18 @@ use borrow.Author.Rules.{rules}
 use Rattle.mac.proofs.mac_slot.Statement.{statement}
 use Rattle.mac.proofs.mac_slot.Tie as tie
 
+key-of-requires : tie.Need-key-of-requires
+key-of-requires c κs = search rules
+
+draws-key-requires : tie.Need-draws-key-requires
+draws-key-requires c κs = search rules
+
+slot-bit-requires : tie.Need-slot-bit-requires
+slot-bit-requires c κs = search rules
+
+use-left-requires : tie.Need-use-left-requires
+use-left-requires c κs = search rules
+
 returns : tie.Need-returns
 unfolding mac_slot
 returns c =
@@ -20,4 +32,9 @@ pub mac-slot-spec : {M : Type 1} → statement M
 mac-slot-spec =
     tie.close
     (tie.spec
-    (λ c κs. search rules) (λ c κs. search rules) (λ c κs. search rules) (λ c κs. search rules) returns returns-2)
+    key-of-requires
+    draws-key-requires
+    slot-bit-requires
+    use-left-requires
+    returns
+    returns-2)

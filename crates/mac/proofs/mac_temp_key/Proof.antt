@@ -5,6 +5,9 @@ use borrow.Author.Rules.{rules}
 use Rattle.mac.proofs.mac_temp_key.Statement.{statement}
 use Rattle.mac.proofs.mac_temp_key.Tie as tie
 
+uses-temp-key-requires : tie.Need-uses-temp-key-requires
+uses-temp-key-requires c κs = search rules
+
 returns : tie.Need-returns
 unfolding mac_temp_key
 returns c =
@@ -16,5 +19,4 @@ unfolding mac_temp_key
 returns-2 c = rw (sym c.before.uses-temp-key.ensures ∙ c.if1.false)
 
 pub mac-temp-key-spec : {M : Type 1} → statement M
-mac-temp-key-spec =
-    tie.close (tie.spec (λ c κs. search rules) returns returns-2)
+mac-temp-key-spec = tie.close (tie.spec uses-temp-key-requires returns returns-2)

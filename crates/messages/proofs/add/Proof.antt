@@ -18,6 +18,24 @@ decreases-loop n s at k b₀ i₀ b i = k - i
 loop-holds : tie.Need-loop-init invariant-loop decreases-loop
 loop-holds c = (search rules, paste-zero c.args.m c.args.n (drop c.args.at c.args.s.now))
 
+add-b : tie.Need-overflow-add-b invariant-loop decreases-loop
+add-b c = omega arith
+
+shared-slice-read-b : tie.Need-shared-slice-read-b invariant-loop decreases-loop
+shared-slice-read-b c = omega arith
+
+add-b-2 : tie.Need-overflow-add-b-2 invariant-loop decreases-loop
+add-b-2 c = omega arith
+
+array-write-b : tie.Need-array-write-b invariant-loop decreases-loop
+array-write-b c = omega arith
+
+add-i : tie.Need-overflow-add-i invariant-loop decreases-loop
+add-i c = omega arith
+
+loop-less : tie.Need-loop-smaller invariant-loop decreases-loop
+loop-less c = omega arith
+
 loop-again : tie.Need-loop-preserved invariant-loop decreases-loop
 loop-again c =
     let turn = c.before.before in
@@ -41,5 +59,14 @@ pub add_spec : {M : Type 1} → statement M
 add_spec =
     tie.close
     (tie.spec
-    invariant-loop decreases-loop loop-holds (λ c. omega arith) (λ c. omega arith) (λ c. omega arith) (λ c. omega arith)
-    (λ c. omega arith) (λ c. omega arith) loop-again returns)
+    invariant-loop
+    decreases-loop
+    loop-holds
+    add-b
+    shared-slice-read-b
+    add-b-2
+    array-write-b
+    add-i
+    loop-less
+    loop-again
+    returns)

@@ -5,6 +5,15 @@ use borrow.Author.Rules.{rules}
 use Rattle.messages.proofs.add_if.Statement.{statement}
 use Rattle.messages.proofs.add_if.Tie as tie
 
+add-requires : tie.Need-add-requires
+add-requires c κs = search rules
+
+slice-aggregate-add : tie.Need-slice-aggregate-add
+slice-aggregate-add c = search rules
+
+add-requires-2 : tie.Need-add-requires-2
+add-requires-2 c κs = search rules
+
 returns : tie.Need-returns
 returns c = rw c.before.if1.true c.add.ensures
 
@@ -13,4 +22,4 @@ returns-2 c = let k = c.before.before.before.before.args.k in rw (c.before.befor
 
 pub add-if-spec : {M : Type 1} → statement M
 add-if-spec =
-    tie.close (tie.spec (λ c κs. search rules) (λ c. search rules) (λ c κs. search rules) returns returns-2)
+    tie.close (tie.spec add-requires slice-aggregate-add add-requires-2 returns returns-2)

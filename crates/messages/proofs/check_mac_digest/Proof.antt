@@ -8,6 +8,45 @@ use borrow.Author.Rules.{rules}
 use Rattle.messages.proofs.check_mac_digest.Statement.{statement}
 use Rattle.messages.proofs.check_mac_digest.Tie as tie
 
+slice-aggregate-add : tie.Need-slice-aggregate-add
+slice-aggregate-add c = search rules
+
+add-requires : tie.Need-add-requires
+add-requires c κs = search rules
+
+slice-aggregate-add-2 : tie.Need-slice-aggregate-add-2
+slice-aggregate-add-2 c = search rules
+
+add-requires-2 : tie.Need-add-requires-2
+add-requires-2 c κs = search rules
+
+slice-aggregate-add-3 : tie.Need-slice-aggregate-add-3
+slice-aggregate-add-3 c = search rules
+
+add-requires-3 : tie.Need-add-requires-3
+add-requires-3 c κs = search rules
+
+slice-aggregate-add-if : tie.Need-slice-aggregate-add-if
+slice-aggregate-add-if c = search rules
+
+add-if-requires : tie.Need-add-if-requires
+add-if-requires c κs = search rules
+
+other-fields-requires : tie.Need-other-fields-requires
+other-fields-requires c κs = search rules
+
+sub-digest : tie.Need-overflow-sub-digest
+sub-digest c = search rules
+
+part-digest-start : tie.Need-slice-bounds-digest-start
+part-digest-start c = search rules
+
+part-digest-end : tie.Need-slice-bounds-digest-end
+part-digest-end c = search rules
+
+digest-requires : tie.Need-digest-requires
+digest-requires c κs = search rules
+
 returns : tie.Need-returns
 unfolding check_mac_message
 returns c =
@@ -23,6 +62,17 @@ pub check-mac-digest-spec : {M : Type 1} → statement M
 check-mac-digest-spec =
     tie.close
     (tie.spec
-    (λ c. search rules) (λ c κs. search rules) (λ c. search rules) (λ c κs. search rules) (λ c. search rules)
-    (λ c κs. search rules) (λ c. search rules) (λ c κs. search rules) (λ c κs. search rules) (λ c. search rules)
-    (λ c. search rules) (λ c. search rules) (λ c κs. search rules) returns)
+    slice-aggregate-add
+    add-requires
+    slice-aggregate-add-2
+    add-requires-2
+    slice-aggregate-add-3
+    add-requires-3
+    slice-aggregate-add-if
+    add-if-requires
+    other-fields-requires
+    sub-digest
+    part-digest-start
+    part-digest-end
+    digest-requires
+    returns)

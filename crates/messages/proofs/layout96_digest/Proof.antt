@@ -8,6 +8,27 @@ use borrow.Author.Rules.{rules}
 use Rattle.messages.proofs.layout96_digest.Statement.{statement}
 use Rattle.messages.proofs.layout96_digest.Tie as tie
 
+layout39-requires : tie.Need-layout39-requires
+layout39-requires c κs = search rules
+
+slice-aggregate-add : tie.Need-slice-aggregate-add
+slice-aggregate-add c = search rules
+
+add-requires : tie.Need-add-requires
+add-requires c κs = search rules
+
+slice-aggregate-add-2 : tie.Need-slice-aggregate-add-2
+slice-aggregate-add-2 c = search rules
+
+add-requires-2 : tie.Need-add-requires-2
+add-requires-2 c κs = search rules
+
+slice-aggregate-digest : tie.Need-slice-aggregate-digest
+slice-aggregate-digest c = search rules
+
+digest-requires : tie.Need-digest-requires
+digest-requires c κs = search rules
+
 returns : tie.Need-returns
 unfolding layout96
 returns c =
@@ -22,5 +43,11 @@ pub layout96-digest-spec : {M : Type 1} → statement M
 layout96-digest-spec =
     tie.close
     (tie.spec
-    (λ c κs. search rules) (λ c. search rules) (λ c κs. search rules) (λ c. search rules) (λ c κs. search rules)
-    (λ c. search rules) (λ c κs. search rules) returns)
+    layout39-requires
+    slice-aggregate-add
+    add-requires
+    slice-aggregate-add-2
+    add-requires-2
+    slice-aggregate-digest
+    digest-requires
+    returns)

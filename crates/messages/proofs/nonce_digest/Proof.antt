@@ -8,6 +8,39 @@ use borrow.Author.Rules.{rules}
 use Rattle.messages.proofs.nonce_digest.Statement.{statement}
 use Rattle.messages.proofs.nonce_digest.Tie as tie
 
+slice-aggregate-add : tie.Need-slice-aggregate-add
+slice-aggregate-add c = search rules
+
+add-requires : tie.Need-add-requires
+add-requires c κs = search rules
+
+slice-aggregate-add-2 : tie.Need-slice-aggregate-add-2
+slice-aggregate-add-2 c = search rules
+
+add-requires-2 : tie.Need-add-requires-2
+add-requires-2 c κs = search rules
+
+cast-t16 : tie.Need-overflow-cast-t16
+cast-t16 c = search rules
+
+slice-aggregate-add-3 : tie.Need-slice-aggregate-add-3
+slice-aggregate-add-3 c = search rules
+
+add-requires-3 : tie.Need-add-requires-3
+add-requires-3 c κs = search rules
+
+sub-digest : tie.Need-overflow-sub-digest
+sub-digest c = search rules
+
+part-digest-start : tie.Need-slice-bounds-digest-start
+part-digest-start c = search rules
+
+part-digest-end : tie.Need-slice-bounds-digest-end
+part-digest-end c = search rules
+
+digest-requires : tie.Need-digest-requires
+digest-requires c κs = search rules
+
 returns : tie.Need-returns
 unfolding nonce_message
 returns c =
@@ -22,6 +55,15 @@ pub nonce-digest-spec : {M : Type 1} → statement M
 nonce-digest-spec =
     tie.close
     (tie.spec
-    (λ c. search rules) (λ c κs. search rules) (λ c. search rules) (λ c κs. search rules) (λ c. search rules)
-    (λ c. search rules) (λ c κs. search rules) (λ c. search rules) (λ c. search rules) (λ c. search rules)
-    (λ c κs. search rules) returns)
+    slice-aggregate-add
+    add-requires
+    slice-aggregate-add-2
+    add-requires-2
+    cast-t16
+    slice-aggregate-add-3
+    add-requires-3
+    sub-digest
+    part-digest-start
+    part-digest-end
+    digest-requires
+    returns)

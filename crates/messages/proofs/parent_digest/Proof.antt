@@ -4,6 +4,24 @@ use borrow.Author.Rules.{rules}
 use Rattle.messages.proofs.parent_digest.Statement.{statement}
 use Rattle.messages.proofs.parent_digest.Tie as tie
 
+header-of-requires : tie.Need-header-of-requires
+header-of-requires c κs = search rules
+
+layout39-requires : tie.Need-layout39-requires
+layout39-requires c κs = search rules
+
+sub-digest : tie.Need-overflow-sub-digest
+sub-digest c = search rules
+
+part-digest-start : tie.Need-slice-bounds-digest-start
+part-digest-start c = search rules
+
+part-digest-end : tie.Need-slice-bounds-digest-end
+part-digest-end c = search rules
+
+digest-requires : tie.Need-digest-requires
+digest-requires c κs = search rules
+
 returns : tie.Need-returns
 unfolding parent_message
 returns c =
@@ -14,5 +32,10 @@ pub parent-digest-spec : {M : Type 1} → statement M
 parent-digest-spec =
     tie.close
     (tie.spec
-    (λ c κs. search rules) (λ c κs. search rules) (λ c. search rules) (λ c. search rules) (λ c. search rules)
-    (λ c κs. search rules) returns)
+    header-of-requires
+    layout39-requires
+    sub-digest
+    part-digest-start
+    part-digest-end
+    digest-requires
+    returns)

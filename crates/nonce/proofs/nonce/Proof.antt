@@ -11,6 +11,18 @@ use borrow.Author.Rules.{rules}
 use Rattle.nonce.proofs.nonce.Statement.{statement}
 use Rattle.nonce.proofs.nonce.Tie as tie
 
+nonce-shape-requires : tie.Need-nonce-shape-requires
+nonce-shape-requires c κs = search rules
+
+row-of-requires : tie.Need-row-of-requires
+row-of-requires c κs = search rules
+
+taken-key-requires : tie.Need-taken-key-requires
+taken-key-requires c κs = search rules
+
+answered-requires : tie.Need-answered-requires
+answered-requires c κs = search rules
+
 returns : tie.Need-returns
 unfolding nonce_input nonce
 returns c =
@@ -20,6 +32,18 @@ returns c =
     let shape = sym q.before.nonce-shape.ensures ∙ q.if1.true in
     let sent = row_all a.input.now (nonce_32 a.f a.input.now shape p.if2.true) in
     rw (shape, eq-eqb _ _ p.if2.true, c.answered.ensures, c.before.taken-key.ensures, p.before.before.row_of.ensures, sent)
+
+used-random-requires : tie.Need-used-random-requires
+used-random-requires c κs = search rules
+
+nonce-digest-requires : tie.Need-nonce-digest-requires
+nonce-digest-requires c κs = search rules
+
+taken-key-requires-2 : tie.Need-taken-key-requires-2
+taken-key-requires-2 c κs = search rules
+
+said-requires : tie.Need-said-requires
+said-requires c κs = search rules
 
 returns-2 : tie.Need-returns-2
 unfolding nonce_random nonce
@@ -41,5 +65,14 @@ pub nonce-spec : {M : Type 1} → statement M
 nonce-spec =
     tie.close
     (tie.spec
-    (λ c κs. search rules) (λ c κs. search rules) (λ c κs. search rules) (λ c κs. search rules) returns
-    (λ c κs. search rules) (λ c κs. search rules) (λ c κs. search rules) (λ c κs. search rules) returns-2 returns-3)
+    nonce-shape-requires
+    row-of-requires
+    taken-key-requires
+    answered-requires
+    returns
+    used-random-requires
+    nonce-digest-requires
+    taken-key-requires-2
+    said-requires
+    returns-2
+    returns-3)

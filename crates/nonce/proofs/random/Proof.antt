@@ -7,6 +7,18 @@ use borrow.Author.Rules.{rules}
 use Rattle.nonce.proofs.random.Statement.{statement}
 use Rattle.nonce.proofs.random.Tie as tie
 
+random-shape-requires : tie.Need-random-shape-requires
+random-shape-requires c κs = search rules
+
+used-random-requires : tie.Need-used-random-requires
+used-random-requires c κs = search rules
+
+ended-requires : tie.Need-ended-requires
+ended-requires c κs = search rules
+
+said-requires : tie.Need-said-requires
+said-requires c κs = search rules
+
 returns : tie.Need-returns
 unfolding random
 returns c =
@@ -23,4 +35,9 @@ pub random-spec : {M : Type 1} → statement M
 random-spec =
     tie.close
     (tie.spec
-    (λ c κs. search rules) (λ c κs. search rules) (λ c κs. search rules) (λ c κs. search rules) returns returns-2)
+    random-shape-requires
+    used-random-requires
+    ended-requires
+    said-requires
+    returns
+    returns-2)

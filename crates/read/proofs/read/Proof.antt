@@ -6,11 +6,23 @@ use borrow.Author.Rules.{rules}
 use Rattle.read.proofs.read.Statement.{statement}
 use Rattle.read.proofs.read.Tie as tie
 
+read-shape-requires : tie.Need-read-shape-requires
+read-shape-requires c κs = search rules
+
+read-free-requires : tie.Need-read-free-requires
+read-free-requires c κs = search rules
+
 read-zone-requires : tie.Need-read-zone-requires
 read-zone-requires c κs =
     let p = c.before.before in
     let a = p.before.before.before.args in
     read_fits a.f a.input.now (sym p.before.read-shape.ensures ∙ p.if1.true)
+
+said-requires : tie.Need-said-requires
+said-requires c κs = search rules
+
+said-requires-2 : tie.Need-said-requires-2
+said-requires-2 c κs = search rules
 
 returns : tie.Need-returns
 unfolding read
@@ -38,5 +50,11 @@ pub read_spec : {M : Type 1} → statement M
 read_spec =
     tie.close
     (tie.spec
-    (λ c κs. search rules) (λ c κs. search rules) read-zone-requires (λ c κs. search rules) (λ c κs. search rules)
-    returns returns-2 returns-3)
+    read-shape-requires
+    read-free-requires
+    read-zone-requires
+    said-requires
+    said-requires-2
+    returns
+    returns-2
+    returns-3)

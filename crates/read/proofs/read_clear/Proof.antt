@@ -9,6 +9,21 @@ use borrow.Author.Rules.{rules}
 use Rattle.read.proofs.read_clear.Statement.{statement}
 use Rattle.read.proofs.read_clear.Tie as tie
 
+position-of-requires : tie.Need-position-of-requires
+position-of-requires c κs = search rules
+
+size-of-requires : tie.Need-size-of-requires
+size-of-requires c κs = search rules
+
+row-of-requires : tie.Need-row-of-requires
+row-of-requires c κs = search rules
+
+size-of-requires-2 : tie.Need-size-of-requires-2
+size-of-requires-2 c κs = search rules
+
+ended-requires : tie.Need-ended-requires
+ended-requires c κs = search rules
+
 returns : tie.Need-returns
 returns c =
     let p = c.before.before in
@@ -25,5 +40,9 @@ pub read-clear-spec : {M : Type 1} → statement M
 read-clear-spec =
     tie.close
     (tie.spec
-    (λ c κs. search rules) (λ c κs. search rules) (λ c κs. search rules) (λ c κs. search rules) (λ c κs. search rules)
+    position-of-requires
+    size-of-requires
+    row-of-requires
+    size-of-requires-2
+    ended-requires
     returns)

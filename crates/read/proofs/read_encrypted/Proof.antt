@@ -8,6 +8,15 @@ use borrow.Author.Rules.{rules}
 use Rattle.read.proofs.read_encrypted.Statement.{statement}
 use Rattle.read.proofs.read_encrypted.Tie as tie
 
+slot-bytes-requires : tie.Need-slot-bytes-requires
+slot-bytes-requires c κs = search rules
+
+xor-row-requires : tie.Need-xor-row-requires
+xor-row-requires c κs = search rules
+
+ended-requires : tie.Need-ended-requires
+ended-requires c κs = search rules
+
 returns : tie.Need-returns
 returns c =
     let a = c.before.before.before.before.before.args in
@@ -16,4 +25,4 @@ returns c =
 
 pub read-encrypted-spec : {M : Type 1} → statement M
 read-encrypted-spec =
-    tie.close (tie.spec (λ c κs. search rules) (λ c κs. search rules) (λ c κs. search rules) returns)
+    tie.close (tie.spec slot-bytes-requires xor-row-requires ended-requires returns)

@@ -5,6 +5,12 @@ use borrow.Author.Rules.{rules}
 use Rattle.read.proofs.read_free.Statement.{statement}
 use Rattle.read.proofs.read_free.Tie as tie
 
+otp-read-free-requires : tie.Need-otp-read-free-requires
+otp-read-free-requires c κs = search rules
+
+data-read-free-requires : tie.Need-data-read-free-requires
+data-read-free-requires c κs = search rules
+
 returns : tie.Need-returns
 unfolding read_free
 returns c = rw c.match.keys1
@@ -21,4 +27,4 @@ returns-3 c =
 
 pub read-free-spec : {M : Type 1} → statement M
 read-free-spec =
-    tie.close (tie.spec (λ c κs. search rules) (λ c κs. search rules) returns returns-2 returns-3)
+    tie.close (tie.spec otp-read-free-requires data-read-free-requires returns returns-2 returns-3)

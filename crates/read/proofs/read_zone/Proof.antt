@@ -9,17 +9,35 @@ use borrow.Author.Rules.{rules}
 use Rattle.read.proofs.read_zone.Statement.{statement}
 use Rattle.read.proofs.read_zone.Tie as tie
 
+slice-aggregate-read-clear : tie.Need-slice-aggregate-read-clear
+slice-aggregate-read-clear c = search rules
+
 read-clear-requires : tie.Need-read-clear-requires
 read-clear-requires c κs =
     let s = c.before.before.before.before in
     let h : length s.args.d.config ≡ 88 = search rules in
     omega (arith, config_within s.args.f s.requires c.before.before.match.keys1)
 
+slice-aggregate-read-clear-2 : tie.Need-slice-aggregate-read-clear-2
+slice-aggregate-read-clear-2 c = search rules
+
 read-clear-requires-2 : tie.Need-read-clear-requires-2
 read-clear-requires-2 c κs =
     let s = c.before.before.before.before in
     let h : length s.args.d.otp ≡ 64 = search rules in
     omega (arith, otp_within s.args.f s.requires c.before.before.match.keys2)
+
+slot-of-requires : tie.Need-slot-of-requires
+slot-of-requires c κs = search rules
+
+slot-bit-requires : tie.Need-slot-bit-requires
+slot-bit-requires c κs = search rules
+
+read-encrypted-requires : tie.Need-read-encrypted-requires
+read-encrypted-requires c κs = search rules
+
+slice-aggregate-read-clear-3 : tie.Need-slice-aggregate-read-clear-3
+slice-aggregate-read-clear-3 c = search rules
 
 read-clear-requires-3 : tie.Need-read-clear-requires-3
 read-clear-requires-3 c κs =
@@ -57,6 +75,16 @@ pub read-zone-spec : {M : Type 1} → statement M
 read-zone-spec =
     tie.close
     (tie.spec
-    (λ c. search rules) read-clear-requires (λ c. search rules) read-clear-requires-2 (λ c κs. search rules)
-    (λ c κs. search rules) (λ c κs. search rules) (λ c. search rules) read-clear-requires-3 returns returns-2 returns-3
+    slice-aggregate-read-clear
+    read-clear-requires
+    slice-aggregate-read-clear-2
+    read-clear-requires-2
+    slot-of-requires
+    slot-bit-requires
+    read-encrypted-requires
+    slice-aggregate-read-clear-3
+    read-clear-requires-3
+    returns
+    returns-2
+    returns-3
     returns-4)

@@ -10,6 +10,12 @@ returns c =
     let x = c.before.args in
     sym (mark_none x.rest.now x.a x.b (search rules))
 
+shared-slice-read-result : tie.Need-shared-slice-read-result
+shared-slice-read-result c = search rules
+
+shared-slice-read-result-2 : tie.Need-shared-slice-read-result-2
+shared-slice-read-result-2 c = search rules
+
 returns-2 : tie.Need-returns-2
 returns-2 c =
     let x = c.before.before.before.args in
@@ -17,4 +23,4 @@ returns-2 c =
 
 pub is-marked-spec : {M : Type 1} → statement M
 is-marked-spec =
-    tie.close (tie.spec returns (λ c. search rules) (λ c. search rules) returns-2)
+    tie.close (tie.spec returns shared-slice-read-result shared-slice-read-result-2 returns-2)

@@ -13,6 +13,12 @@ returns : tie.Need-returns
 unfolding fitting
 returns c = let e : c.before.args.len - c.before.args.at ≡ 0 = omega arith in rw (e, le-ltb _ _ zero-le)
 
+sub-if2 : tie.Need-overflow-sub-if2
+sub-if2 c = search rules
+
+sub-result : tie.Need-overflow-sub-result
+sub-result c = search rules
+
 returns-2 : tie.Need-returns-2
 unfolding fitting
 returns-2 c = search tests
@@ -22,5 +28,4 @@ unfolding fitting
 returns-3 c = search tests
 
 pub room-spec : {M : Type 1} → statement M
-room-spec =
-    tie.close (tie.spec returns (λ c. search rules) (λ c. search rules) returns-2 returns-3)
+room-spec = tie.close (tie.spec returns sub-if2 sub-result returns-2 returns-3)

@@ -16,12 +16,33 @@ invariant-loop s at n there count b₀ i₀ b i = (count ≡ min (min n (length 
 abbrev decreases-loop : tie.decreases-loop
 decreases-loop s at n there count b₀ i₀ b i = count - i
 
+room-requires : tie.Need-room-requires invariant-loop decreases-loop
+room-requires c κs = search rules
+
+room-requires-2 : tie.Need-room-requires-2 invariant-loop decreases-loop
+room-requires-2 c κs = search rules
+
 loop-holds : tie.Need-loop-init invariant-loop decreases-loop
 loop-holds c =
     let a = c.before.before.before.args in
     let e = fitting_min (length a.s.now) a.at a.n in
     let f = fitting_min 32 0 c.before.room.result in
     (omega (arith, e, f, c.room2.ensures, c.before.room.ensures), (search rules, paste-zero (zeros 32) 0 (drop a.at a.s.now)))
+
+add-b : tie.Need-overflow-add-b invariant-loop decreases-loop
+add-b c = omega arith
+
+shared-slice-read-b : tie.Need-shared-slice-read-b invariant-loop decreases-loop
+shared-slice-read-b c = omega arith
+
+array-write-b : tie.Need-array-write-b invariant-loop decreases-loop
+array-write-b c = omega arith
+
+add-i : tie.Need-overflow-add-i invariant-loop decreases-loop
+add-i c = omega arith
+
+loop-less : tie.Need-loop-smaller invariant-loop decreases-loop
+loop-less c = omega arith
 
 loop-again : tie.Need-loop-preserved invariant-loop decreases-loop
 loop-again c =
@@ -39,5 +60,15 @@ pub row-of-spec : {M : Type 1} → statement M
 row-of-spec =
     tie.close
     (tie.spec
-    invariant-loop decreases-loop (λ c κs. search rules) (λ c κs. search rules) loop-holds (λ c. omega arith) (λ c. omega arith)
-    (λ c. omega arith) (λ c. omega arith) (λ c. omega arith) loop-again returns)
+    invariant-loop
+    decreases-loop
+    room-requires
+    room-requires-2
+    loop-holds
+    add-b
+    shared-slice-read-b
+    array-write-b
+    add-i
+    loop-less
+    loop-again
+    returns)

@@ -9,6 +9,15 @@ use borrow.Author.Rules.{rules}
 use Rattle.rows.proofs.slot_bytes.Statement.{statement}
 use Rattle.rows.proofs.slot_bytes.Tie as tie
 
+cast-at : tie.Need-overflow-cast-at
+cast-at c = search rules
+
+mul_at : tie.Need-overflow-mul-at
+mul_at c = search rules
+
+row-of-requires : tie.Need-row-of-requires
+row-of-requires c κs = search rules
+
 returns : tie.Need-returns
 unfolding slot_bytes
 returns c =
@@ -17,5 +26,4 @@ returns c =
     c.row_of.ensures ∙ row_whole a.t1.«data» (32 * (a.k.0 % 16)) (omega arith)
 
 pub slot-bytes-spec : {M : Type 1} → statement M
-slot-bytes-spec =
-    tie.close (tie.spec (λ c. search rules) (λ c. search rules) (λ c κs. search rules) returns)
+slot-bytes-spec = tie.close (tie.spec cast-at mul_at row-of-requires returns)

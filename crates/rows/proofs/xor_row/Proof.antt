@@ -20,6 +20,21 @@ decreases-loop a b r₀ i₀ r i = 32 - i
 loop-holds : tie.Need-loop-init invariant-loop decreases-loop
 loop-holds c = (search rules, paste-zero (zeros 32) 0 (xor_row c.args.t1 c.args.t2))
 
+array-read-r : tie.Need-array-read-r invariant-loop decreases-loop
+array-read-r c = omega arith
+
+array-read-r-2 : tie.Need-array-read-r-2 invariant-loop decreases-loop
+array-read-r-2 c = omega arith
+
+array-write-r : tie.Need-array-write-r invariant-loop decreases-loop
+array-write-r c = omega arith
+
+add-i : tie.Need-overflow-add-i invariant-loop decreases-loop
+add-i c = omega arith
+
+loop-less : tie.Need-loop-smaller invariant-loop decreases-loop
+loop-less c = omega arith
+
 loop-again : tie.Need-loop-preserved invariant-loop decreases-loop
 loop-again c =
     let a = c.before.before.args.t1 in
@@ -41,5 +56,13 @@ pub xor-row-spec : {M : Type 1} → statement M
 xor-row-spec =
     tie.close
     (tie.spec
-    invariant-loop decreases-loop loop-holds (λ c. omega arith) (λ c. omega arith) (λ c. omega arith) (λ c. omega arith)
-    (λ c. omega arith) loop-again returns)
+    invariant-loop
+    decreases-loop
+    loop-holds
+    array-read-r
+    array-read-r-2
+    array-write-r
+    add-i
+    loop-less
+    loop-again
+    returns)

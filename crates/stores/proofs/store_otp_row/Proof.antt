@@ -19,10 +19,28 @@ invariant-loop at row n next₀ i₀ next i =
 abbrev decreases-loop : tie.decreases-loop
 decreases-loop at row n next₀ i₀ next i = n - i
 
+room-requires : tie.Need-room-requires invariant-loop decreases-loop
+room-requires c κs = search rules
+
 loop-holds : tie.Need-loop-init invariant-loop decreases-loop
 loop-holds c =
     let a = c.before.before.args in
     (c.room.ensures ∙ fitting_min 64 a.at (length a.row.now), (search rules, (search rules, rw add-zero)))
+
+shared-slice-read-next : tie.Need-shared-slice-read-next invariant-loop decreases-loop
+shared-slice-read-next c = omega arith
+
+add-next : tie.Need-overflow-add-next invariant-loop decreases-loop
+add-next c = omega arith
+
+element-write-next : tie.Need-element-write-next invariant-loop decreases-loop
+element-write-next c = omega arith
+
+add-i : tie.Need-overflow-add-i invariant-loop decreases-loop
+add-i c = omega arith
+
+loop-less : tie.Need-loop-smaller invariant-loop decreases-loop
+loop-less c = omega arith
 
 loop-again : tie.Need-loop-preserved invariant-loop decreases-loop
 loop-again c =
@@ -40,5 +58,14 @@ pub store-otp-row-spec : {M : Type 1} → statement M
 store-otp-row-spec =
     tie.close
     (tie.spec
-    invariant-loop decreases-loop (λ c κs. search rules) loop-holds (λ c. omega arith) (λ c. omega arith) (λ c. omega arith)
-    (λ c. omega arith) (λ c. omega arith) loop-again returns)
+    invariant-loop
+    decreases-loop
+    room-requires
+    loop-holds
+    shared-slice-read-next
+    add-next
+    element-write-next
+    add-i
+    loop-less
+    loop-again
+    returns)

@@ -15,11 +15,20 @@ use borrow.Author.Rules.{rules}
 use Rattle.token.proofs.answer_block.Statement.{statement}
 use Rattle.token.proofs.answer_block.Tie as tie
 
+is-whole-requires : tie.Need-is-whole-requires
+is-whole-requires c κs = search rules
+
 run-block-requires : tie.Need-run-block-requires
 run-block-requires c κs =
     let test = c.before in
     let block = test.before.before.before.before.before.args.block.now in
     ((whole_length block (sym test.before.is_whole.ensures ∙ test.if1.true)).0, search rules)
+
+sub-put : tie.Need-overflow-sub-put
+sub-put c = search rules
+
+part-put-start : tie.Need-slice-bounds-put-start
+part-put-start c = search rules
 
 part-put-end : tie.Need-slice-bounds-put-end
 part-put-end c =
@@ -32,6 +41,15 @@ part-put-end c =
     let few = few_for a.token.device a.block.now a.random.now start.requires.1.0 in
     let len : answered.result.len ≡ length plan.answer = ap (λ (r : Reply). r.len) answered.ensures in
     omega (arith, len, few, room)
+
+put-requires : tie.Need-put-requires
+put-requires c κs = search rules
+
+put-status-requires : tie.Need-put-status-requires
+put-status-requires c κs = search rules
+
+same_length : tie.Need-same-length
+same_length c = search rules
 
 returns : tie.Need-returns
 unfolding block_turn
@@ -51,6 +69,9 @@ returns c =
     let end = end_answered a.token (answering (apply plan a.token.device) a.token.power plan.answer) a.random.now a.output.now plan.answer (output35, random32) refl in
     rw (start.requires.0, whole, put.0, put.1, sub-zero, running.run-block.ensures, take-append_seam plan.answer, fit.0, fit.1) end
 
+same-length-2 : tie.Need-same-length-2
+same-length-2 c = search rules
+
 returns-2 : tie.Need-returns-2
 unfolding block_turn
 returns-2 c =
@@ -67,5 +88,14 @@ pub answer-block-spec : {M : Type 1} → statement M
 answer-block-spec =
     tie.close
     (tie.spec
-    (λ c κs. search rules) run-block-requires (λ c. search rules) (λ c. search rules) part-put-end
-    (λ c κs. search rules) (λ c κs. search rules) (λ c. search rules) returns (λ c. search rules) returns-2)
+    is-whole-requires
+    run-block-requires
+    sub-put
+    part-put-start
+    part-put-end
+    put-requires
+    put-status-requires
+    same_length
+    returns
+    same-length-2
+    returns-2)

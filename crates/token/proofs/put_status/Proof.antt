@@ -8,6 +8,18 @@ use borrow.Author.Rules.{rules}
 use Rattle.token.proofs.put_status.Statement.{statement}
 use Rattle.token.proofs.put_status.Tie as tie
 
+status-byte-requires : tie.Need-status-byte-requires
+status-byte-requires c κs = search rules
+
+slice-aggregate-put : tie.Need-slice-aggregate-put
+slice-aggregate-put c = search rules
+
+put-requires : tie.Need-put-requires
+put-requires c κs = search rules
+
+same_length : tie.Need-same-length
+same_length c = search rules
+
 returns : tie.Need-returns
 returns c =
     let putting = c.before.before in
@@ -19,4 +31,4 @@ returns c =
 
 pub put-status-spec : {M : Type 1} → statement M
 put-status-spec =
-    tie.close (tie.spec (λ c κs. search rules) (λ c. search rules) (λ c κs. search rules) (λ c. search rules) returns)
+    tie.close (tie.spec status-byte-requires slice-aggregate-put put-requires same_length returns)

@@ -6,6 +6,42 @@ use borrow.Author.Rules.{rules}
 use Rattle.token.proofs.run.Statement.{statement}
 use Rattle.token.proofs.run.Tie as tie
 
+read-requires : tie.Need-read-requires
+read-requires c κs = search rules
+
+mac-requires : tie.Need-mac-requires
+mac-requires c κs = search rules
+
+write-requires : tie.Need-write-requires
+write-requires c κs = search rules
+
+gen-dig-requires : tie.Need-gen-dig-requires
+gen-dig-requires c κs = search rules
+
+nonce-requires : tie.Need-nonce-requires
+nonce-requires c κs = search rules
+
+lock-requires : tie.Need-lock-requires
+lock-requires c κs = search rules
+
+random-requires : tie.Need-random-requires
+random-requires c κs = search rules
+
+derive-key-requires : tie.Need-derive-key-requires
+derive-key-requires c κs = search rules
+
+update-extra-requires : tie.Need-update-extra-requires
+update-extra-requires c κs = search rules
+
+check-mac-requires : tie.Need-check-mac-requires
+check-mac-requires c κs = search rules
+
+dev-rev-requires : tie.Need-dev-rev-requires
+dev-rev-requires c κs = search rules
+
+said-requires : tie.Need-said-requires
+said-requires c κs = search rules
+
 returns : tie.Need-returns
 unfolding command_of
 returns c = rw c.before.match.keys1 c.read.ensures
@@ -60,7 +96,27 @@ pub run_spec : {M : Type 1} → statement M
 run_spec =
     tie.close
     (tie.spec
-    (λ c κs. search rules) (λ c κs. search rules) (λ c κs. search rules) (λ c κs. search rules) (λ c κs. search rules)
-    (λ c κs. search rules) (λ c κs. search rules) (λ c κs. search rules) (λ c κs. search rules) (λ c κs. search rules)
-    (λ c κs. search rules) (λ c κs. search rules) returns returns-2 returns-3 returns-4 returns-5 returns-6 returns-7
-    returns-8 returns-9 returns-10 returns-11 returns-12)
+    read-requires
+    mac-requires
+    write-requires
+    gen-dig-requires
+    nonce-requires
+    lock-requires
+    random-requires
+    derive-key-requires
+    update-extra-requires
+    check-mac-requires
+    dev-rev-requires
+    said-requires
+    returns
+    returns-2
+    returns-3
+    returns-4
+    returns-5
+    returns-6
+    returns-7
+    returns-8
+    returns-9
+    returns-10
+    returns-11
+    returns-12)

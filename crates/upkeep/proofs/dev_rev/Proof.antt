@@ -9,6 +9,21 @@ use borrow.Author.Rules.{rules}
 use Rattle.upkeep.proofs.dev_rev.Statement.{statement}
 use Rattle.upkeep.proofs.dev_rev.Tie as tie
 
+dev-rev-shape-requires : tie.Need-dev-rev-shape-requires
+dev-rev-shape-requires c κs = search rules
+
+slice-aggregate-row-of : tie.Need-slice-aggregate-row-of
+slice-aggregate-row-of c = search rules
+
+row-of-requires : tie.Need-row-of-requires
+row-of-requires c κs = search rules
+
+ended-requires : tie.Need-ended-requires
+ended-requires c κs = search rules
+
+said-requires : tie.Need-said-requires
+said-requires c κs = search rules
+
 returns : tie.Need-returns
 unfolding dev_rev
 returns c =
@@ -27,5 +42,10 @@ pub dev-rev-spec : {M : Type 1} → statement M
 dev-rev-spec =
     tie.close
     (tie.spec
-    (λ c κs. search rules) (λ c. search rules) (λ c κs. search rules) (λ c κs. search rules) (λ c κs. search rules)
-    returns returns-2)
+    dev-rev-shape-requires
+    slice-aggregate-row-of
+    row-of-requires
+    ended-requires
+    said-requires
+    returns
+    returns-2)

@@ -5,6 +5,30 @@ use borrow.Author.Rules.{rules}
 use Rattle.upkeep.proofs.lock.Statement.{statement}
 use Rattle.upkeep.proofs.lock.Tie as tie
 
+lock-shape-requires : tie.Need-lock-shape-requires
+lock-shape-requires c κs = search rules
+
+zone-open-requires : tie.Need-zone-open-requires
+zone-open-requires c κs = search rules
+
+locked-requires : tie.Need-locked-requires
+locked-requires c κs = search rules
+
+summary-right-requires : tie.Need-summary-right-requires
+summary-right-requires c κs = search rules
+
+said-requires : tie.Need-said-requires
+said-requires c κs = search rules
+
+said-requires-2 : tie.Need-said-requires-2
+said-requires-2 c κs = search rules
+
+said-requires-3 : tie.Need-said-requires-3
+said-requires-3 c κs = search rules
+
+said-requires-4 : tie.Need-said-requires-4
+said-requires-4 c κs = search rules
+
 returns : tie.Need-returns
 unfolding lock lock_free
 returns c =
@@ -42,5 +66,15 @@ pub lock-spec : {M : Type 1} → statement M
 lock-spec =
     tie.close
     (tie.spec
-    (λ c κs. search rules) (λ c κs. search rules) (λ c κs. search rules) (λ c κs. search rules) (λ c κs. search rules)
-    (λ c κs. search rules) (λ c κs. search rules) (λ c κs. search rules) returns returns-2 returns-3 returns-4)
+    lock-shape-requires
+    zone-open-requires
+    locked-requires
+    summary-right-requires
+    said-requires
+    said-requires-2
+    said-requires-3
+    said-requires-4
+    returns
+    returns-2
+    returns-3
+    returns-4)

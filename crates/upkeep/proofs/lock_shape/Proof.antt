@@ -6,6 +6,12 @@ use borrow.Author.Rules.{rules}
 use Rattle.upkeep.proofs.lock_shape.Statement.{statement}
 use Rattle.upkeep.proofs.lock_shape.Tie as tie
 
+only-bits-requires : tie.Need-only-bits-requires
+only-bits-requires c κs = search rules
+
+param2-fits-requires : tie.Need-param2-fits-requires
+param2-fits-requires c κs = search rules
+
 returns : tie.Need-returns
 unfolding lock_shape
 returns c =
@@ -26,4 +32,4 @@ returns-3 c = rw (sym (lock_mask c.before.before.before.args.f.param1 (search ru
 
 pub lock-shape-spec : {M : Type 1} → statement M
 lock-shape-spec =
-    tie.close (tie.spec (λ c κs. search rules) (λ c κs. search rules) returns returns-2 returns-3)
+    tie.close (tie.spec only-bits-requires param2-fits-requires returns returns-2 returns-3)

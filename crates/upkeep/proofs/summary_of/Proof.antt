@@ -8,6 +8,24 @@ use borrow.Author.Rules.{rules}
 use Rattle.upkeep.proofs.summary_of.Statement.{statement}
 use Rattle.upkeep.proofs.summary_of.Tie as tie
 
+slice-aggregate-check-value : tie.Need-slice-aggregate-check-value
+slice-aggregate-check-value c = search rules
+
+check-value-requires : tie.Need-check-value-requires
+check-value-requires c κs = search rules
+
+slice-aggregate-check-value-2 : tie.Need-slice-aggregate-check-value-2
+slice-aggregate-check-value-2 c = search rules
+
+check-value-requires-2 : tie.Need-check-value-requires-2
+check-value-requires-2 c κs = search rules
+
+slice-aggregate-check-value-3 : tie.Need-slice-aggregate-check-value-3
+slice-aggregate-check-value-3 c = search rules
+
+check-value-requires-3 : tie.Need-check-value-requires-3
+check-value-requires-3 c κs = search rules
+
 returns : tie.Need-returns
 unfolding summary check_value
 returns c =
@@ -23,5 +41,11 @@ pub summary-of-spec : {M : Type 1} → statement M
 summary-of-spec =
     tie.close
     (tie.spec
-    (λ c. search rules) (λ c κs. search rules) (λ c. search rules) (λ c κs. search rules) (λ c. search rules)
-    (λ c κs. search rules) returns returns-2)
+    slice-aggregate-check-value
+    check-value-requires
+    slice-aggregate-check-value-2
+    check-value-requires-2
+    slice-aggregate-check-value-3
+    check-value-requires-3
+    returns
+    returns-2)

@@ -4,6 +4,9 @@ use borrow.Author.Rules.{rules}
 use Rattle.upkeep.proofs.summary_right.Statement.{statement}
 use Rattle.upkeep.proofs.summary_right.Tie as tie
 
+summary-of-requires : tie.Need-summary-of-requires
+summary-of-requires c κs = search rules
+
 returns : tie.Need-returns
 returns c = rw (eq-eqb _ _ c.if1.true)
 
@@ -11,5 +14,4 @@ returns-2 : tie.Need-returns-2
 returns-2 c = rw (ne_eqb _ _ c.before.before.if1.false, c.before.summary-of.ensures)
 
 pub summary-right-spec : {M : Type 1} → statement M
-summary-right-spec =
-    tie.close (tie.spec (λ c κs. search rules) returns returns-2)
+summary-right-spec = tie.close (tie.spec summary-of-requires returns returns-2)

@@ -5,6 +5,24 @@ use borrow.Author.Rules.{rules}
 use Rattle.upkeep.proofs.update_extra.Statement.{statement}
 use Rattle.upkeep.proofs.update_extra.Tie as tie
 
+update-extra-shape-requires : tie.Need-update-extra-shape-requires
+update-extra-shape-requires c κs = search rules
+
+update-extra-free-requires : tie.Need-update-extra-free-requires
+update-extra-free-requires c κs = search rules
+
+updated-requires : tie.Need-updated-requires
+updated-requires c κs = search rules
+
+said-requires : tie.Need-said-requires
+said-requires c κs = search rules
+
+said-requires-2 : tie.Need-said-requires-2
+said-requires-2 c κs = search rules
+
+said-requires-3 : tie.Need-said-requires-3
+said-requires-3 c κs = search rules
+
 returns : tie.Need-returns
 unfolding update_extra
 returns c =
@@ -31,5 +49,12 @@ pub update-extra-spec : {M : Type 1} → statement M
 update-extra-spec =
     tie.close
     (tie.spec
-    (λ c κs. search rules) (λ c κs. search rules) (λ c κs. search rules) (λ c κs. search rules) (λ c κs. search rules)
-    (λ c κs. search rules) returns returns-2 returns-3)
+    update-extra-shape-requires
+    update-extra-free-requires
+    updated-requires
+    said-requires
+    said-requires-2
+    said-requires-3
+    returns
+    returns-2
+    returns-3)

@@ -5,6 +5,12 @@ use borrow.Author.Rules.{rules}
 use Rattle.upkeep.proofs.update_extra_free.Statement.{statement}
 use Rattle.upkeep.proofs.update_extra_free.Tie as tie
 
+array-read-if2 : tie.Need-array-read-if2
+array-read-if2 c = search rules
+
+array-read-result : tie.Need-array-read-result
+array-read-result c = search rules
+
 returns : tie.Need-returns
 unfolding update_extra_free
 returns c = search tests
@@ -19,4 +25,4 @@ returns-3 c = search tests
 
 pub update-extra-free-spec : {M : Type 1} → statement M
 update-extra-free-spec =
-    tie.close (tie.spec (λ c. search rules) (λ c. search rules) returns returns-2 returns-3)
+    tie.close (tie.spec array-read-if2 array-read-result returns returns-2 returns-3)

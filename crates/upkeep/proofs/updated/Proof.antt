@@ -4,6 +4,15 @@ use borrow.Author.Rules.{rules}
 use Rattle.upkeep.proofs.updated.Statement.{statement}
 use Rattle.upkeep.proofs.updated.Tie as tie
 
+cast-b : tie.Need-overflow-cast-b
+cast-b c = search rules
+
+store-config-requires : tie.Need-store-config-requires
+store-config-requires c κs = search rules
+
+store-config-requires-2 : tie.Need-store-config-requires-2
+store-config-requires-2 c κs = search rules
+
 returns : tie.Need-returns
 returns c = rw (eq-eqb _ _ c.before.if1.true) c.store-config.ensures
 
@@ -12,4 +21,4 @@ returns-2 c = rw (ne_eqb _ _ c.before.if1.false) c.store-config2.ensures
 
 pub updated-spec : {M : Type 1} → statement M
 updated-spec =
-    tie.close (tie.spec (λ c. search rules) (λ c κs. search rules) (λ c κs. search rules) returns returns-2)
+    tie.close (tie.spec cast-b store-config-requires store-config-requires-2 returns returns-2)

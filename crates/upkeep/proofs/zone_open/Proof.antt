@@ -6,6 +6,15 @@ use borrow.Author.Rules.{rules}
 use Rattle.upkeep.proofs.zone_open.Statement.{statement}
 use Rattle.upkeep.proofs.zone_open.Tie as tie
 
+values-locked-requires : tie.Need-values-locked-requires
+values-locked-requires c κs = search rules
+
+config-locked-requires : tie.Need-config-locked-requires
+config-locked-requires c κs = search rules
+
+config-locked-requires-2 : tie.Need-config-locked-requires-2
+config-locked-requires-2 c κs = search rules
+
 returns : tie.Need-returns
 unfolding zone_open
 returns c = rw (eq-eqb _ _ c.before.before.if1.true, sym c.before.values-locked.ensures ∙ c.if2.true)
@@ -25,4 +34,9 @@ pub zone-open-spec : {M : Type 1} → statement M
 zone-open-spec =
     tie.close
     (tie.spec
-    (λ c κs. search rules) (λ c κs. search rules) (λ c κs. search rules) returns returns-2 returns-3)
+    values-locked-requires
+    config-locked-requires
+    config-locked-requires-2
+    returns
+    returns-2
+    returns-3)

@@ -13,6 +13,12 @@ returns c = rw (c.if1.true, zero-sub)
 sub-result : tie.Need-overflow-sub-result
 sub-result c = (highest c.before.args.b c.if1.false c.before.ranges.b.fits).there
 
+cast-result : tie.Need-overflow-cast-result
+cast-result c = search rules
+
+shl-result : tie.Need-overflow-shl-result
+shl-result c = search rules
+
 sub-result-2 : tie.Need-overflow-sub-result-2
 sub-result-2 c =
     let h = highest c.before.args.b c.if1.false c.before.ranges.b.fits in
@@ -24,4 +30,4 @@ returns-2 c = rw (highest c.before.args.b c.if1.false c.before.ranges.b.fits).sh
 
 pub clear-highest-spec : {M : Type 1} → statement M
 clear-highest-spec =
-    tie.close (tie.spec returns sub-result (λ c. search rules) (λ c. search rules) sub-result-2 returns-2)
+    tie.close (tie.spec returns sub-result cast-result shl-result sub-result-2 returns-2)

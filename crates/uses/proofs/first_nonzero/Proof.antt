@@ -18,10 +18,19 @@ decreases-loop c i₀ i = 83 - i
 loop-holds : tie.Need-loop-init invariant-loop decreases-loop
 loop-holds c = (search rules, (search rules, refl))
 
+array-read-if1 : tie.Need-array-read-if1 invariant-loop decreases-loop
+array-read-if1 c = omega arith
+
 returns : tie.Need-returns invariant-loop decreases-loop
 returns c =
     let turn = c.before.before in
     rw (first_step turn.before.args.t1 turn.loop.i 83 c.before.loop-test.true, ne_eqb _ _ c.if1.true) at turn.loop.invariant.1.1
+
+add-i : tie.Need-overflow-add-i invariant-loop decreases-loop
+add-i c = omega arith
+
+loop-less : tie.Need-loop-smaller invariant-loop decreases-loop
+loop-less c = omega arith
 
 loop-again : tie.Need-loop-preserved invariant-loop decreases-loop
 loop-again c =
@@ -38,4 +47,12 @@ pub first-nonzero-spec : {M : Type 1} → statement M
 first-nonzero-spec =
     tie.close
     (tie.spec
-    invariant-loop decreases-loop loop-holds (λ c. omega arith) returns (λ c. omega arith) (λ c. omega arith) loop-again returns-2)
+    invariant-loop
+    decreases-loop
+    loop-holds
+    array-read-if1
+    returns
+    add-i
+    loop-less
+    loop-again
+    returns-2)

@@ -5,6 +5,9 @@ use borrow.Author.Rules.{rules}
 use Rattle.uses.proofs.is_limited.Statement.{statement}
 use Rattle.uses.proofs.is_limited.Tie as tie
 
+slot-bit-requires : tie.Need-slot-bit-requires
+slot-bit-requires c κs = search rules
+
 returns : tie.Need-returns
 unfolding limited
 returns c = rw (lt-ltb _ _ c.if1.true, c.before.slot-bit.ensures)
@@ -18,5 +21,4 @@ unfolding limited
 returns-3 c = rw (le-ltb _ _ c.before.if1.false, ne_eqb _ _ c.if2.false)
 
 pub is-limited-spec : {M : Type 1} → statement M
-is-limited-spec =
-    tie.close (tie.spec (λ c κs. search rules) returns returns-2 returns-3)
+is-limited-spec = tie.close (tie.spec slot-bit-requires returns returns-2 returns-3)

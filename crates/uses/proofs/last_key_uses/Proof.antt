@@ -23,6 +23,9 @@ decreases-loop c sum₀ i₀ sum i = 84 - i
 loop-holds : tie.Need-loop-init invariant-loop decreases-loop
 loop-holds c = (search rules, (search rules, (search rules, zero-add _)))
 
+array-read-sum : tie.Need-array-read-sum invariant-loop decreases-loop
+array-read-sum c = omega arith
+
 few_ones : (c : tie.In-loop invariant-loop decreases-loop) → ones (get_or c.before.before.args.t1 c.before.loop.i 0) ≤ 8
 few_ones c =
     let x = get_or c.before.before.args.t1 c.before.loop.i 0 in
@@ -34,6 +37,12 @@ cast-sum c = omega (arith, few_ones c)
 
 add-sum : tie.Need-overflow-add-sum invariant-loop decreases-loop
 add-sum c = omega (arith, few_ones c)
+
+add-i : tie.Need-overflow-add-i invariant-loop decreases-loop
+add-i c = omega arith
+
+loop-less : tie.Need-loop-smaller invariant-loop decreases-loop
+loop-less c = omega arith
 
 loop-again : tie.Need-loop-preserved invariant-loop decreases-loop
 loop-again c =
@@ -52,5 +61,13 @@ pub last-key-uses-spec : {M : Type 1} → statement M
 last-key-uses-spec =
     tie.close
     (tie.spec
-    invariant-loop decreases-loop loop-holds (λ c. omega arith) cast-sum add-sum (λ c. omega arith) (λ c. omega arith) loop-again
+    invariant-loop
+    decreases-loop
+    loop-holds
+    array-read-sum
+    cast-sum
+    add-sum
+    add-i
+    loop-less
+    loop-again
     returns)

@@ -7,10 +7,22 @@ use borrow.Author.Rules.{rules}
 use Rattle.uses.proofs.spend.Statement.{statement}
 use Rattle.uses.proofs.spend.Tie as tie
 
+is-limited-requires : tie.Need-is-limited-requires
+is-limited-requires c κs = search rules
+
+use-at-requires : tie.Need-use-at-requires
+use-at-requires c κs = search rules
+
 array-read-clear-highest : tie.Need-array-read-clear-highest
 array-read-clear-highest c =
     let a = c.before.before.before.before.args in
     omega (arith, c.use-at.ensures, use_within a.d.config a.k)
+
+clear-highest-requires : tie.Need-clear-highest-requires
+clear-highest-requires c κs = search rules
+
+store-config-requires : tie.Need-store-config-requires
+store-config-requires c κs = search rules
 
 returns : tie.Need-returns
 unfolding spend
@@ -26,5 +38,10 @@ pub spend_spec : {M : Type 1} → statement M
 spend_spec =
     tie.close
     (tie.spec
-    (λ c κs. search rules) (λ c κs. search rules) array-read-clear-highest (λ c κs. search rules) (λ c κs. search rules)
-    returns returns-2)
+    is-limited-requires
+    use-at-requires
+    array-read-clear-highest
+    clear-highest-requires
+    store-config-requires
+    returns
+    returns-2)

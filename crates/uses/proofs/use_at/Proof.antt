@@ -5,6 +5,18 @@ use borrow.Author.Rules.{rules}
 use Rattle.uses.proofs.use_at.Statement.{statement}
 use Rattle.uses.proofs.use_at.Tie as tie
 
+first-nonzero-requires : tie.Need-first-nonzero-requires
+first-nonzero-requires c κs = search rules
+
+cast-result : tie.Need-overflow-cast-result
+cast-result c = search rules
+
+mul-result : tie.Need-overflow-mul-result
+mul-result c = search rules
+
+add-result : tie.Need-overflow-add-result
+add-result c = search rules
+
 returns : tie.Need-returns
 unfolding use_at
 returns c = rw (eq-eqb _ _ c.before.if1.true, c.first-nonzero.ensures)
@@ -15,6 +27,4 @@ returns-2 c = rw (ne_eqb _ _ c.if1.false)
 
 pub use-at-spec : {M : Type 1} → statement M
 use-at-spec =
-    tie.close
-    (tie.spec
-    (λ c κs. search rules) (λ c. search rules) (λ c. search rules) (λ c. search rules) returns returns-2)
+    tie.close (tie.spec first-nonzero-requires cast-result mul-result add-result returns returns-2)

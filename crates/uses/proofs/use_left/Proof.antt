@@ -5,6 +5,12 @@ use borrow.Author.Rules.{rules}
 use Rattle.uses.proofs.use_left.Statement.{statement}
 use Rattle.uses.proofs.use_left.Tie as tie
 
+is-limited-requires : tie.Need-is-limited-requires
+is-limited-requires c κs = search rules
+
+uses-left-requires : tie.Need-uses-left-requires
+uses-left-requires c κs = search rules
+
 returns : tie.Need-returns
 unfolding use_left
 returns c = rw (sym c.before.before.is-limited.ensures ∙ c.before.if1.true, c.uses-left.ensures)
@@ -14,5 +20,4 @@ unfolding use_left
 returns-2 c = rw (sym c.before.is-limited.ensures ∙ c.if1.false)
 
 pub use-left-spec : {M : Type 1} → statement M
-use-left-spec =
-    tie.close (tie.spec (λ c κs. search rules) (λ c κs. search rules) returns returns-2)
+use-left-spec = tie.close (tie.spec is-limited-requires uses-left-requires returns returns-2)

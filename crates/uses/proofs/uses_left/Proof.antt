@@ -11,9 +11,24 @@ use borrow.Author.Rules.{rules}
 use Rattle.uses.proofs.uses_left.Statement.{statement}
 use Rattle.uses.proofs.uses_left.Tie as tie
 
+last-key-uses-requires : tie.Need-last-key-uses-requires
+last-key-uses-requires c κs = search rules
+
 returns : tie.Need-returns
 unfolding uses_left
 returns c = rw (eq-eqb _ _ c.before.if1.true, c.last-key-uses.ensures)
+
+cast-at : tie.Need-overflow-cast-at
+cast-at c = search rules
+
+mul_at : tie.Need-overflow-mul-at
+mul_at c = search rules
+
+add_at : tie.Need-overflow-add-at
+add_at c = search rules
+
+array-read-result : tie.Need-array-read-result
+array-read-result c = search rules
 
 cast-result : tie.Need-overflow-cast-result
 cast-result c =
@@ -30,5 +45,11 @@ pub uses-left-spec : {M : Type 1} → statement M
 uses-left-spec =
     tie.close
     (tie.spec
-    (λ c κs. search rules) returns (λ c. search rules) (λ c. search rules) (λ c. search rules) (λ c. search rules)
-    cast-result returns-2)
+    last-key-uses-requires
+    returns
+    cast-at
+    mul_at
+    add_at
+    array-read-result
+    cast-result
+    returns-2)

@@ -10,10 +10,49 @@ invariant-loop d i₀ t4 i = i ≤ 32
 abbrev decreases-loop : tie.decreases-loop
 decreases-loop d i₀ t4 i = 32 - i
 
+loop-holds : tie.Need-loop-init invariant-loop decreases-loop
+loop-holds c = search rules
+
+array-read-print-hex : tie.Need-array-read-print-hex invariant-loop decreases-loop
+array-read-print-hex c = search rules
+
+cast-print-hex : tie.Need-overflow-cast-print-hex invariant-loop decreases-loop
+cast-print-hex c = search rules
+
+print-hex-requires : tie.Need-print-hex-requires invariant-loop decreases-loop
+print-hex-requires c κs = search rules
+
+add-i : tie.Need-overflow-add-i invariant-loop decreases-loop
+add-i c = search rules
+
+loop-less : tie.Need-loop-smaller invariant-loop decreases-loop
+loop-less c = search rules
+
+loop-again : tie.Need-loop-preserved invariant-loop decreases-loop
+loop-again c = search rules
+
+slice-aggregate-write-all : tie.Need-slice-aggregate-write-all invariant-loop decreases-loop
+slice-aggregate-write-all c = search rules
+
+write-all-requires : tie.Need-write-all-requires invariant-loop decreases-loop
+write-all-requires c κs = search rules
+
+returns : tie.Need-returns invariant-loop decreases-loop
+returns c = search rules
+
 pub show-spec : {M : Type 1} → statement M
 show-spec =
     tie.close
     (tie.spec
-    invariant-loop decreases-loop (λ c. search rules) (λ c. search rules) (λ c. search rules) (λ c κs. search rules)
-    (λ c. search rules) (λ c. search rules) (λ c. search rules) (λ c. search rules) (λ c κs. search rules)
-    (λ c. search rules))
+    invariant-loop
+    decreases-loop
+    loop-holds
+    array-read-print-hex
+    cast-print-hex
+    print-hex-requires
+    add-i
+    loop-less
+    loop-again
+    slice-aggregate-write-all
+    write-all-requires
+    returns)

@@ -15,10 +15,15 @@ returns-2 : tie.Need-returns-2
 unfolding put_length put_output fits
 returns-2 c = search tests
 
+put-fitting-requires : tie.Need-put-fitting-requires
+put-fitting-requires c κs = search rules
+
+same_length : tie.Need-same-length
+same_length c = search rules
+
 returns-3 : tie.Need-returns-3
 unfolding put_length put_output fits
 returns-3 c = search tests
 
 pub put_spec : {M : Type 1} → statement M
-put_spec =
-    tie.close (tie.spec returns returns-2 (λ c κs. search rules) (λ c. search rules) returns-3)
+put_spec = tie.close (tie.spec returns returns-2 put-fitting-requires same_length returns-3)

@@ -9,6 +9,24 @@ use borrow.Author.Rules.{rules}
 use Rattle.write.proofs.old_and_new.Statement.{statement}
 use Rattle.write.proofs.old_and_new.Tie as tie
 
+size-of-requires : tie.Need-size-of-requires
+size-of-requires c κs = search rules
+
+slice-aggregate-row-of : tie.Need-slice-aggregate-row-of
+slice-aggregate-row-of c = search rules
+
+position-of-requires : tie.Need-position-of-requires
+position-of-requires c κs = search rules
+
+row-of-requires : tie.Need-row-of-requires
+row-of-requires c κs = search rules
+
+row-of-requires-2 : tie.Need-row-of-requires-2
+row-of-requires-2 c κs = search rules
+
+and-row-requires : tie.Need-and-row-requires
+and-row-requires c κs = search rules
+
 returns : tie.Need-returns
 returns c =
     let p = c.before.before in
@@ -22,5 +40,10 @@ pub old-and-new-spec : {M : Type 1} → statement M
 old-and-new-spec =
     tie.close
     (tie.spec
-    (λ c κs. search rules) (λ c. search rules) (λ c κs. search rules) (λ c κs. search rules) (λ c κs. search rules)
-    (λ c κs. search rules) returns)
+    size-of-requires
+    slice-aggregate-row-of
+    position-of-requires
+    row-of-requires
+    row-of-requires-2
+    and-row-requires
+    returns)

@@ -5,8 +5,20 @@ use borrow.Author.Rules.{rules}
 use Rattle.write.proofs.write.Statement.{statement}
 use Rattle.write.proofs.write.Tie as tie
 
+write-shape-requires : tie.Need-write-shape-requires
+write-shape-requires c κs = search rules
+
+write-free-requires : tie.Need-write-free-requires
+write-free-requires c κs = search rules
+
 write-checked-requires : tie.Need-write-checked-requires
 write-checked-requires c κs = (sym c.before.before.before.write_shape.ensures ∙ c.before.before.if1.true, sym c.before.write-free.ensures ∙ c.if2.true)
+
+said-requires : tie.Need-said-requires
+said-requires c κs = search rules
+
+said-requires-2 : tie.Need-said-requires-2
+said-requires-2 c κs = search rules
 
 returns : tie.Need-returns
 unfolding write
@@ -34,5 +46,11 @@ pub write_spec : {M : Type 1} → statement M
 write_spec =
     tie.close
     (tie.spec
-    (λ c κs. search rules) (λ c κs. search rules) write-checked-requires (λ c κs. search rules) (λ c κs. search rules)
-    returns returns-2 returns-3)
+    write-shape-requires
+    write-free-requires
+    write-checked-requires
+    said-requires
+    said-requires-2
+    returns
+    returns-2
+    returns-3)

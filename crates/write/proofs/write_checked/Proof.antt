@@ -8,6 +8,9 @@ use borrow.Author.Rules.{rules}
 use Rattle.write.proofs.write_checked.Statement.{statement}
 use Rattle.write.proofs.write_checked.Tie as tie
 
+is-encrypted-requires : tie.Need-is-encrypted-requires
+is-encrypted-requires c κs = search rules
+
 write-encrypted-requires : tie.Need-write-encrypted-requires
 write-encrypted-requires c κs =
     let s = c.before.before.before.before in
@@ -24,6 +27,9 @@ write-value-requires c κs =
     let none = mac_encrypted s.args.d f input s.requires.1 ∙ sym c.before.is-encrypted.ensures ∙ c.if1.false in
     (size_clear f input s.requires.0 none, write_fits f input s.requires.0)
 
+said-requires : tie.Need-said-requires
+said-requires c κs = search rules
+
 returns : tie.Need-returns
 unfolding write_effect
 returns c = rw (sym c.before.before.is-encrypted.ensures ∙ c.before.if1.true) c.write-encrypted.ensures
@@ -39,4 +45,9 @@ pub write-checked-spec : {M : Type 1} → statement M
 write-checked-spec =
     tie.close
     (tie.spec
-    (λ c κs. search rules) write-encrypted-requires write-value-requires (λ c κs. search rules) returns returns-2)
+    is-encrypted-requires
+    write-encrypted-requires
+    write-value-requires
+    said-requires
+    returns
+    returns-2)

@@ -7,6 +7,27 @@ use borrow.Author.Rules.{rules}
 use Rattle.write.proofs.write_encrypted.Statement.{statement}
 use Rattle.write.proofs.write_encrypted.Tie as tie
 
+plain-of-requires : tie.Need-plain-of-requires
+plain-of-requires c κs = search rules
+
+row-of-requires : tie.Need-row-of-requires
+row-of-requires c κs = search rules
+
+mac-right-requires : tie.Need-mac-right-requires
+mac-right-requires c κs = search rules
+
+slice-aggregate-write-value : tie.Need-slice-aggregate-write-value
+slice-aggregate-write-value c = search rules
+
+write-value-requires : tie.Need-write-value-requires
+write-value-requires c κs = search rules
+
+said-requires : tie.Need-said-requires
+said-requires c κs = search rules
+
+said-requires-2 : tie.Need-said-requires-2
+said-requires-2 c κs = search rules
+
 returns : tie.Need-returns
 unfolding write_mac
 returns c =
@@ -29,5 +50,12 @@ pub write-encrypted-spec : {M : Type 1} → statement M
 write-encrypted-spec =
     tie.close
     (tie.spec
-    (λ c κs. search rules) (λ c κs. search rules) (λ c κs. search rules) (λ c. search rules) (λ c κs. search rules)
-    (λ c κs. search rules) (λ c κs. search rules) returns returns-2)
+    plain-of-requires
+    row-of-requires
+    mac-right-requires
+    slice-aggregate-write-value
+    write-value-requires
+    said-requires
+    said-requires-2
+    returns
+    returns-2)

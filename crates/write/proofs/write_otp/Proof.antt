@@ -10,6 +10,18 @@ use borrow.Author.Rules.{rules}
 use Rattle.write.proofs.write_otp.Statement.{statement}
 use Rattle.write.proofs.write_otp.Tie as tie
 
+position-of-requires : tie.Need-position-of-requires
+position-of-requires c κs = search rules
+
+values-locked-requires : tie.Need-values-locked-requires
+values-locked-requires c κs = search rules
+
+old-and-new-requires : tie.Need-old-and-new-requires
+old-and-new-requires c κs = search rules
+
+size-of-requires : tie.Need-size-of-requires
+size-of-requires c κs = search rules
+
 array-share-prefix-row : tie.Need-array-share-prefix-row
 array-share-prefix-row c =
     let row = c.before.old-and-new in
@@ -24,6 +36,12 @@ slice-aggregate-store-otp-row c =
     let f = p.before.before.before.before.before.before.before.args.f in
     let h : length row ≡ 32 = search rules in
     sym (length-take-le p.type_size.result row (omega (arith, size_small f, p.type_size.ensures)))
+
+store-otp-row-requires : tie.Need-store-otp-row-requires
+store-otp-row-requires c κs = search rules
+
+store-otp-row-requires-2 : tie.Need-store-otp-row-requires-2
+store-otp-row-requires-2 c κs = search rules
 
 returns : tie.Need-returns
 unfolding otp_written
@@ -46,5 +64,13 @@ pub write-otp-spec : {M : Type 1} → statement M
 write-otp-spec =
     tie.close
     (tie.spec
-    (λ c κs. search rules) (λ c κs. search rules) (λ c κs. search rules) (λ c κs. search rules) array-share-prefix-row
-    slice-aggregate-store-otp-row (λ c κs. search rules) (λ c κs. search rules) returns returns-2)
+    position-of-requires
+    values-locked-requires
+    old-and-new-requires
+    size-of-requires
+    array-share-prefix-row
+    slice-aggregate-store-otp-row
+    store-otp-row-requires
+    store-otp-row-requires-2
+    returns
+    returns-2)

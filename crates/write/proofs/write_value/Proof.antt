@@ -6,10 +6,22 @@ use borrow.Author.Rules.{rules}
 use Rattle.write.proofs.write_value.Statement.{statement}
 use Rattle.write.proofs.write_value.Tie as tie
 
+position-of-requires : tie.Need-position-of-requires
+position-of-requires c κs = search rules
+
+store-config-row-requires : tie.Need-store-config-row-requires
+store-config-row-requires c κs = search rules
+
 write-otp-requires : tie.Need-write-otp-requires
 write-otp-requires c κs =
     let s = c.before.before.before in
     (s.requires.0, otp_within s.args.f s.requires.1 c.match.keys2)
+
+position-of-requires-2 : tie.Need-position-of-requires-2
+position-of-requires-2 c κs = search rules
+
+store-data-row-requires : tie.Need-store-data-row-requires
+store-data-row-requires c κs = search rules
 
 returns : tie.Need-returns
 unfolding written
@@ -29,5 +41,11 @@ pub write-value-spec : {M : Type 1} → statement M
 write-value-spec =
     tie.close
     (tie.spec
-    (λ c κs. search rules) (λ c κs. search rules) write-otp-requires (λ c κs. search rules) (λ c κs. search rules)
-    returns returns-2 returns-3)
+    position-of-requires
+    store-config-row-requires
+    write-otp-requires
+    position-of-requires-2
+    store-data-row-requires
+    returns
+    returns-2
+    returns-3)

@@ -71,8 +71,8 @@ const DEV_REV: [u8; 7] = [0x07, 0x30, 0x00, 0x00, 0x00, 0x03, 0x5D];
 /// Bytes of output, random bytes, a byte of the state and its value, and the number.
 type Odd = (usize, usize, Option<(usize, u8)>, u32);
 
-/// Numbers 1, 2 and 40 in this order, for each event.
-const ODD: [Odd; 19] = [
+/// Numbers 1, 2 and 40, for each event.
+const ODD: [Odd; 18] = [
     (0, 32, None, 1),
     (34, 32, None, 1),
     (34, 31, None, 1),
@@ -89,9 +89,8 @@ const ODD: [Odd; 19] = [
     (35, 32, Some((700, 255)), 40),
     (35, 32, Some((701, 3)), 40),
     (35, 32, Some((701, 255)), 40),
-    (34, 32, Some((701, 3)), 1),
-    (34, 31, Some((701, 3)), 1),
-    (35, 31, Some((697, 2)), 2),
+    (34, 32, Some((701, 3)), 40),
+    (35, 31, Some((697, 2)), 40),
 ];
 
 fn buffers(tally: &mut Tally) {
@@ -112,8 +111,6 @@ fn buffers(tally: &mut Tally) {
             unchanged(tally, event, &awake[..length], 32, 35, 40);
         }
         unchanged(tally, event, &[&awake[..], &[0]].concat(), 32, 35, 40);
-        unchanged(tally, event, &[], 0, 34, 1);
-        unchanged(tally, event, &[], 33, 35, 2);
     }
     // R18: a block when not Awake with 31 random bytes is 2. R101: with buffers as they should be, 3.
     let mut asleep = awake;

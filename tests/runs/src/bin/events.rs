@@ -7,8 +7,7 @@ use runs::arguments;
 use runs::desk;
 use runs::engine::{Event, Token};
 use runs::generate::{seed_of, Generator, Step};
-use runs::layout::{bytes_of, refusal, token_of, IMAGE_LENGTH, NO_STATE, STATE_LENGTH};
-use runs::lent::Lent;
+use runs::layout::{bytes_of, token_of, IMAGE_LENGTH, NO_STATE, STATE_LENGTH};
 use runs::random::Random;
 use runs::table::Table;
 use runs::tally::Tally;
@@ -19,38 +18,15 @@ fn main() -> ExitCode {
     let (seed, count) = (arguments::number("--seed", 1), arguments::number("--count", 1500));
     let mut tally = Tally::default();
     let mut table = Table::EMPTY;
-    let mut kinds = [0; 8];
     for round in 0..count {
         let mut run = Run::new(seed_of(seed, round));
         let result = run.play();
         tally.result(result.map_err(|why| format!("seed {seed}, round {round}, {why}")));
         table.add(&run.generator.table);
-        for (kind, more) in kinds.iter_mut().zip(run.kinds) {
-            *kind += more;
-        }
     }
     println!("{} steps through the C interface, seed {seed}", count as usize * STEPS);
     table.report(&mut tally);
-    report(&kinds, &mut tally);
     tally.end()
-}
-
-/// Calls by what is wrong with them: bit 0 the output is short, bit 1 the random bytes are wrong, bit 2 the bytes are no state.
-type Kinds = [u64; 8];
-
-fn kind_of(state: &[u8], random: &[u8], output: &[u8]) -> usize {
-    usize::from(output.len() < 35) + 2 * usize::from(random.len() != 32) + 4 * usize::from(token_of(state).is_none())
-}
-
-/// Each kind of call is a case: one that never came up is a failure of the run.
-fn report(kinds: &Kinds, tally: &mut Tally) {
-    for (kind, count) in kinds.iter().enumerate() {
-        let state = ["a state", "no state"][kind >> 2];
-        let random = ["right random", "wrong random"][kind >> 1 & 1];
-        let output = ["right output", "short output"][kind & 1];
-        println!("{count:>10}  {state}, {random}, {output}");
-        tally.case(*count > 0, || format!("never reached: {state}, {random}, {output}"));
-    }
 }
 
 struct Run {
@@ -58,13 +34,12 @@ struct Run {
     /// For what the generator does not know of: buffers.
     random: Random,
     state: Vec<u8>,
-    kinds: Kinds,
 }
 
 impl Run {
     fn new(seed: u64) -> Run {
         let (generator, random) = (Generator::new(seed), Random::new(!seed));
-        Run { generator, random, state: Vec::new(), kinds: [0; 8] }
+        Run { generator, random, state: Vec::new() }
     }
 
     fn play(&mut self) -> Result<(), String> {
@@ -89,7 +64,6 @@ impl Run {
                 }
                 let room = 35 + self.random.below(6);
                 let output = self.random.bytes(room);
-                self.kinds[kind_of(&self.state, random, &output)] += 1;
                 self.state = same_event(&self.state, event, random, &output)?;
                 Ok(())
             }
@@ -134,7 +108,6 @@ impl Run {
             _ => event = Event::Block(&long_block),
         }
         let output = self.random.bytes(room);
-        self.kinds[kind_of(&state, &random, &output)] += 1;
         same_event(&state, event, &random, &output).map(|_| ())
     }
 
@@ -166,6 +139,39 @@ impl Run {
 
 // ===== Comparisons =====
 
+/// Bytes lent out with guard bytes on both sides, so that a store beside them is seen.
+struct Lent {
+    bytes: Vec<u8>,
+}
+
+/// Odd, so that the bytes do not stand where a word would.
+const GUARD: usize = 13;
+
+impl Lent {
+    fn new(bytes: &[u8]) -> Lent {
+        let guard = [0xC5; GUARD];
+        Lent { bytes: [&guard[..], bytes, &guard].concat() }
+    }
+
+    fn part(&mut self) -> &mut [u8] {
+        let end = self.bytes.len() - GUARD;
+        &mut self.bytes[GUARD..end]
+    }
+
+    /// Err where the bytes are others than expected, or a guard is touched.
+    fn same(&mut self, what: &str, expected: &[u8]) -> Result<(), String> {
+        let [front, back] = [&self.bytes[..GUARD], &self.bytes[self.bytes.len() - GUARD..]];
+        if front != [0xC5; GUARD] || back != [0xC5; GUARD] {
+            return Err(format!("a byte beside the {what} was changed"));
+        }
+        let found = self.part();
+        match expected.iter().zip(&*found).position(|(expected, found)| expected != found) {
+            None => Ok(()),
+            Some(at) => Err(format!("{what} byte {at}: expected {:02X}, found {:02X}", expected[at], found[at])),
+        }
+    }
+}
+
 /// The state after a fresh one, where both sides agree.
 fn same_fresh(image: &[u8], state: &[u8]) -> Result<Vec<u8>, String> {
     let (number, after) = if state.len() == STATE_LENGTH {
@@ -192,7 +198,8 @@ fn same_event(state: &[u8], event: Event, random: &[u8], output: &[u8]) -> Resul
             let outcome = token.event(event, random, &mut after_output);
             (outcome.number, outcome.length, bytes_of(&outcome.token).to_vec())
         }
-        None => (refusal(random, output), 0, state.to_vec()),
+        // Bytes that are no state hold no token, so there is no event for numbers 1 and 2 to apply to: 40 comes first.
+        None => (NO_STATE, 0, state.to_vec()),
     };
     let (mut lent_state, mut lent_output) = (Lent::new(state), Lent::new(output));
     let reply = desk::event(event, lent_state.part(), random, lent_output.part());

@@ -8,8 +8,26 @@ use borrow.Author.Rules.{rules}
 use Rattle.records.proofs.fields.from.Statement.{statement}
 use Rattle.records.proofs.fields.from.Tie as tie
 
+sub-result : tie.Need-overflow-sub-result
+sub-result c = search rules
+
+part-result-start : tie.Need-slice-bounds-result-start
+part-result-start c = search rules
+
+part-result-end : tie.Need-slice-bounds-result-end
+part-result-end c = search rules
+
 returns : tie.Need-returns
 returns c = sym (drop_of_length-le c.before.before.args.s.now {i = c.before.before.args.at} (omega arith))
+
+sub-result-2 : tie.Need-overflow-sub-result-2
+sub-result-2 c = search rules
+
+part-result-start-2 : tie.Need-slice-bounds-result-start-2
+part-result-start-2 c = search rules
+
+part-result-end-2 : tie.Need-slice-bounds-result-end-2
+part-result-end-2 c = search rules
 
 returns-2 : tie.Need-returns-2
 returns-2 c =
@@ -21,5 +39,11 @@ pub from-spec : {M : Type 1} → statement M
 from-spec =
     tie.close
     (tie.spec
-    (λ c. search rules) (λ c. search rules) (λ c. search rules) returns (λ c. search rules) (λ c. search rules)
-    (λ c. search rules) returns-2)
+    sub-result
+    part-result-start
+    part-result-end
+    returns
+    sub-result-2
+    part-result-start-2
+    part-result-end-2
+    returns-2)

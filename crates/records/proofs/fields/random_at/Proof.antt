@@ -3,11 +3,20 @@ use borrow.Author.Rules.{rules}
 use Rattle.records.proofs.fields.random_at.Statement.{statement}
 use Rattle.records.proofs.fields.random_at.Tie as tie
 
+from-requires : tie.Need-from-requires
+from-requires c κs = search rules
+
+add-from : tie.Need-overflow-add-from
+add-from c = search rules
+
+from-requires-2 : tie.Need-from-requires-2
+from-requires-2 c κs = search rules
+
+front-requires : tie.Need-front-requires
+front-requires c κs = search rules
+
 returns : tie.Need-returns
 returns c = rw (c.front.ensures, c.before.from2.ensures, c.before.before.from.ensures)
 
 pub random-at-spec : {M : Type 1} → statement M
-random-at-spec =
-    tie.close
-    (tie.spec
-    (λ c κs. search rules) (λ c. search rules) (λ c κs. search rules) (λ c κs. search rules) returns)
+random-at-spec = tie.close (tie.spec from-requires add-from from-requires-2 front-requires returns)

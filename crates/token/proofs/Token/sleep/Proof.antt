@@ -16,11 +16,23 @@ start c = c.before.before.before.before
 right : (c : tie.Else1) → Right (start c).args.random.now (start c).args.output.now
 right c = let a = (start c).args in fitting a.random.now a.output.now c.before.buffers-fit.ensures c.if1.false
 
+buffers-fit-requires : tie.Need-buffers-fit-requires
+buffers-fit-requires c κs = search rules
+
+refused-requires : tie.Need-refused-requires
+refused-requires c κs = search rules
+
 returns : tie.Need-returns
 returns c =
     let test = c.before in
     let a = test.before.before.before.before.args in
     end_refused a.self (sleep_turn a.self.device a.self.power) a.random.now a.output.now test.before.buffers-fit.ensures test.if1.true c.refused.ensures
+
+emptied-key-requires : tie.Need-emptied-key-requires
+emptied-key-requires c κs = search rules
+
+left-requires : tie.Need-left-requires
+left-requires c κs = search rules
 
 returns-2 : tie.Need-returns-2
 unfolding sleep_turn
@@ -35,4 +47,9 @@ pub sleep-spec : {M : Type 1} → statement M
 sleep-spec =
     tie.close
     (tie.spec
-    (λ c κs. search rules) (λ c κs. search rules) returns (λ c κs. search rules) (λ c κs. search rules) returns-2)
+    buffers-fit-requires
+    refused-requires
+    returns
+    emptied-key-requires
+    left-requires
+    returns-2)

@@ -15,11 +15,23 @@ start c = c.before.before.before.before
 right : (c : tie.Else1) → Right (start c).args.random.now (start c).args.output.now
 right c = let a = (start c).args in fitting a.random.now a.output.now c.before.buffers-fit.ensures c.if1.false
 
+buffers-fit-requires : tie.Need-buffers-fit-requires
+buffers-fit-requires c κs = search rules
+
+refused-requires : tie.Need-refused-requires
+refused-requires c κs = search rules
+
 returns : tie.Need-returns
 returns c =
     let test = c.before in
     let a = test.before.before.before.before.args in
     end_refused a.self (wake_turn a.self.device a.self.power) a.random.now a.output.now test.before.buffers-fit.ensures test.if1.true c.refused.ensures
+
+is-awake-requires : tie.Need-is-awake-requires
+is-awake-requires c κs = search rules
+
+left-requires : tie.Need-left-requires
+left-requires c κs = search rules
 
 put-status-requires : tie.Need-put-status-requires
 put-status-requires c κs = (right c.before.before.before).0
@@ -32,6 +44,9 @@ returns-2 c =
     let a = (start fits).args in
     let awake = sym test.before.is-awake.ensures ∙ test.if2.true in
     rw awake (end_silent a.self (silent a.self.device a.self.power) a.random.now a.output.now c.left.ensures (right fits) refl)
+
+same_length : tie.Need-same-length
+same_length c = search rules
 
 returns-3 : tie.Need-returns-3
 unfolding wake_turn
@@ -48,5 +63,12 @@ pub wake-spec : {M : Type 1} → statement M
 wake-spec =
     tie.close
     (tie.spec
-    (λ c κs. search rules) (λ c κs. search rules) returns (λ c κs. search rules) (λ c κs. search rules)
-    put-status-requires returns-2 (λ c. search rules) returns-3)
+    buffers-fit-requires
+    refused-requires
+    returns
+    is-awake-requires
+    left-requires
+    put-status-requires
+    returns-2
+    same_length
+    returns-3)

@@ -5,6 +5,15 @@ use borrow.Author.Rules.{rules}
 use Rattle.token.proofs.fresh.fresh.Statement.{statement}
 use Rattle.token.proofs.fresh.fresh.Tie as tie
 
+device-from-requires : tie.Need-device-from-requires
+device-from-requires c κs = search rules
+
+slice-aggregate-device-from : tie.Need-slice-aggregate-device-from
+slice-aggregate-device-from c = search rules
+
+device-from-requires-2 : tie.Need-device-from-requires-2
+device-from-requires-2 c κs = search rules
+
 returns : tie.Need-returns
 unfolding fresh_of
 returns c =
@@ -17,4 +26,10 @@ returns-2 c =
 
 pub fresh-spec : {M : Type 1} → statement M
 fresh-spec =
-    tie.close (tie.spec (λ c κs. search rules) (λ c. search rules) (λ c κs. search rules) returns returns-2)
+    tie.close
+    (tie.spec
+    device-from-requires
+    slice-aggregate-device-from
+    device-from-requires-2
+    returns
+    returns-2)

@@ -10,6 +10,12 @@ returns : tie.Need-returns
 unfolding encrypted
 returns c = rw (eq-eqb _ _ c.if1.true)
 
+values-locked-requires : tie.Need-values-locked-requires
+values-locked-requires c κs = search rules
+
+slot-encrypted-requires : tie.Need-slot-encrypted-requires
+slot-encrypted-requires c κs = search rules
+
 returns-2 : tie.Need-returns-2
 unfolding encrypted
 returns-2 c =
@@ -23,5 +29,4 @@ returns-3 c =
     rw (ne_eqb _ _ c.before.before.before.if1.false, unlocked)
 
 pub is-encrypted-spec : {M : Type 1} → statement M
-is-encrypted-spec =
-    tie.close (tie.spec returns (λ c κs. search rules) (λ c κs. search rules) returns-2 returns-3)
+is-encrypted-spec = tie.close (tie.spec returns values-locked-requires slot-encrypted-requires returns-2 returns-3)

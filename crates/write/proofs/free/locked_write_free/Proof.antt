@@ -5,6 +5,12 @@ use borrow.Author.Rules.{rules}
 use Rattle.write.proofs.free.locked_write_free.Statement.{statement}
 use Rattle.write.proofs.free.locked_write_free.Tie as tie
 
+element-copy-out-result : tie.Need-element-copy-out-result
+element-copy-out-result c = search rules
+
+slot-write-free-requires : tie.Need-slot-write-free-requires
+slot-write-free-requires c κs = search rules
+
 returns : tie.Need-returns
 unfolding locked_write_free
 returns c = rw (eq-eqb _ _ c.before.if1.true)
@@ -14,5 +20,4 @@ unfolding locked_write_free
 returns-2 c = rw (ne_eqb _ _ c.before.if1.false, c.slot-write-free.ensures)
 
 pub locked-write-free-spec : {M : Type 1} → statement M
-locked-write-free-spec =
-    tie.close (tie.spec (λ c. search rules) (λ c κs. search rules) returns returns-2)
+locked-write-free-spec = tie.close (tie.spec element-copy-out-result slot-write-free-requires returns returns-2)

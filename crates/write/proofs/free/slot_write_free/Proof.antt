@@ -5,6 +5,24 @@ use borrow.Author.Rules.{rules}
 use Rattle.write.proofs.free.slot_write_free.Statement.{statement}
 use Rattle.write.proofs.free.slot_write_free.Tie as tie
 
+slot-of-requires : tie.Need-slot-of-requires
+slot-of-requires c κs = search rules
+
+slot-encrypted-requires : tie.Need-slot-encrypted-requires
+slot-encrypted-requires c κs = search rules
+
+encrypts-requires : tie.Need-encrypts-requires
+encrypts-requires c κs = search rules
+
+write-key-requires : tie.Need-write-key-requires
+write-key-requires c κs = search rules
+
+encrypts-for-requires : tie.Need-encrypts-for-requires
+encrypts-for-requires c κs = search rules
+
+clear-write-free-requires : tie.Need-clear-write-free-requires
+clear-write-free-requires c κs = search rules
+
 returns : tie.Need-returns
 unfolding slot_write_free
 returns c =
@@ -19,8 +37,4 @@ returns-2 c =
     rw (clear, c.clear-write-free.ensures, c.before.before.before.slot_of.ensures)
 
 pub slot-write-free-spec : {M : Type 1} → statement M
-slot-write-free-spec =
-    tie.close
-    (tie.spec
-    (λ c κs. search rules) (λ c κs. search rules) (λ c κs. search rules) (λ c κs. search rules) (λ c κs. search rules)
-    (λ c κs. search rules) returns returns-2)
+slot-write-free-spec = tie.close (tie.spec slot-of-requires slot-encrypted-requires encrypts-requires write-key-requires encrypts-for-requires clear-write-free-requires returns returns-2)

@@ -7,6 +7,9 @@ use borrow.Author.Rules.{rules}
 use Rattle.write.proofs.free.unlocked_write_free.Statement.{statement}
 use Rattle.write.proofs.free.unlocked_write_free.Tie as tie
 
+encrypts-requires : tie.Need-encrypts-requires
+encrypts-requires c κs = search rules
+
 returns : tie.Need-returns
 unfolding unlocked_write_free
 returns c = rw (eq-eqb _ _ c.before.if1.true, c.encrypts.ensures)
@@ -16,5 +19,4 @@ unfolding unlocked_write_free
 returns-2 c = rw (ne_eqb _ _ c.if1.false) (sym (and_true _))
 
 pub unlocked-write-free-spec : {M : Type 1} → statement M
-unlocked-write-free-spec =
-    tie.close (tie.spec (λ c κs. search rules) returns returns-2)
+unlocked-write-free-spec = tie.close (tie.spec encrypts-requires returns returns-2)

@@ -1,2 +1,0 @@
--- Blocks that a caller sends.
-pub mod Blocks

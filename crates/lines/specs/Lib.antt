@@ -1,2 +1,0 @@
--- The lines that the bench program prints.
-pub mod Lines

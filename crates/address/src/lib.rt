@@ -1,4 +1,6 @@
 // Where Read and Write go, and what an encrypted one asks of TempKey.
+#![tactic(auto)]
+
 ghost use Rattle.std.specs.Prelude.{◌≡◌};
 ghost use Rattle.rules.specs.Address.{size, word, slot_of, address_fits, position, encrypts, encrypts_for};
 

@@ -1,4 +1,6 @@
 // Runs the records of standard input on a token and prints a line for each.
+#![tactic(auto)]
+
 ghost use Rattle.std.specs.Prelude.{◌≡◌, ◌+◌, ◌≤◌, ◌<◌, length};
 ghost use Rattle.std.proofs.lemmas.List.Edits.{sets};
 ghost use Rattle.rules.specs.declared.Number.TheVariants.{NoAnswer};
@@ -27,8 +29,8 @@ fn image(bytes: &[u8]) -> Outcome
 // What the record at an offset does to the token; its answer is the front part of the output. WK, ID and SL are given 32 zeros for random
 // bytes, which no answer of theirs shows.
 fn step(token: Token, what: Record, input: &[u8], at: usize, output: &mut [u8]) -> Outcome
-    requires what_value { what ≡ record_at input.now at }
-    requires output_len { length output.old ≡ 35 }
+    requires what_is { what ≡ record_at input.now at }
+    requires output_length { length output.old ≡ 35 }
     ensures value { result ≡ outcome_of (turn_of what token input.now at) }
     ensures output_after { output.new ≡ in_front (turn_of what token input.now at).answer output.old }
 {
@@ -52,7 +54,7 @@ fn step(token: Token, what: Record, input: &[u8], at: usize, output: &mut [u8]) 
 }
 
 // After a record: the token, how many bytes the record takes (0 if it is bad), how many bytes of lines there are.
-#[derive(Drop)]
+#[derive(Clone, Copy)]
 struct Told {
     token: Token,
     taken: usize,
@@ -61,9 +63,9 @@ struct Told {
 
 // Runs the record at an offset and puts its line after the lines there are.
 fn tell(token: Token, input: &[u8], at: usize, out: &mut [u8], used: usize) -> Told
-    requires input_len_bound { length input.now ≤ 65536 }
-    requires at_in_bounds { at < length input.now }
-    requires at_in_bounds_2 { used + length (line_at token input.now at) ≤ length out.old }
+    requires input_fits { length input.now ≤ 65536 }
+    requires at_within { at < length input.now }
+    requires line_fits { used + length (line_at token input.now at) ≤ length out.old }
     ensures token_value { result.token ≡ after (turn_at token input.now at) }
     ensures taken_value { result.taken ≡ length_of (record_at input.now at) }
     ensures used_value { result.used ≡ used + length (line_at token input.now at) }
@@ -86,8 +88,8 @@ fn tell(token: Token, input: &[u8], at: usize, out: &mut [u8], used: usize) -> T
 
 // The lines of an input that is not too long, put at the front of the output; how many bytes they are.
 fn run(input: &[u8], out: &mut [u8]) -> usize
-    requires input_len_bound { length input.now ≤ 65536 }
-    requires input_in_bounds { length (lines input.now) ≤ length out.old }
+    requires input_fits { length input.now ≤ 65536 }
+    requires lines_fit { length (lines input.now) ≤ length out.old }
     ensures value { result ≡ length (lines input.now) }
     ensures out_after { out.new ≡ sets out.old 0 (lines input.now) }
 {

@@ -1,4 +1,6 @@
 // CheckMac.
+#![tactic(auto)]
+
 ghost use Rattle.std.specs.Prelude.{◌≡◌, length};
 ghost use Rattle.rules.specs.Words.{equal};
 ghost use Rattle.rules.specs.Plan.{reply, settle};

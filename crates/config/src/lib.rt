@@ -1,4 +1,6 @@
 // The configuration's locks and SlotConfig, and the bits of a field.
+#![tactic(auto)]
+
 ghost use Rattle.std.specs.Prelude.{◌≡◌};
 ghost use Rattle.std.specs.Int.Bits.{bit_and};
 ghost use Rattle.rules.specs.Words.{◌is◌, bit};

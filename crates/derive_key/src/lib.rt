@@ -1,4 +1,6 @@
 // DeriveKey.
+#![tactic(auto)]
+
 ghost use Rattle.std.specs.Prelude.{◌≡◌, length};
 ghost use Rattle.rules.specs.Words.{◌⇒◌, ◌iff◌, ◌is◌, equal};
 ghost use Rattle.rules.specs.State.{key, write_config_bit};

@@ -1,4 +1,6 @@
 // The desk's C interface (include/chhutirok.h): a token is 702 lent bytes, which each call loads and saves.
+#![tactic(auto)]
+
 ghost use Rattle.std.specs.Prelude.{◌≡◌, ◌+◌, ◌≤◌, length};
 ghost use Rattle.std.proofs.lemmas.List.Edits.{sets};
 ghost use Rattle.rules.specs.State.{number_of};

@@ -1,13 +1,15 @@
 // SHA-256 by FIPS 180-4. A function has the name of the definition in specs/Sha256.antt that it computes, where there is one.
+#![tactic(auto)]
+
 ghost use Rattle.std.specs.Prelude.{◌≡◌, ◌+◌, ◌*◌, ◌/◌, ◌<◌, ◌≤◌, ◌++◌, length, take, slice_index};
-ghost use Rattle.digest.specs.Sha256.{ch, maj, Σ₀, Σ₁, σ₀, σ₁, word, bytes_of, zeros, pad, words, block, H0, ◌⊞◌, schedule, round, rounds, plus, compress, output, sha256};
+ghost use Rattle.digest.specs.Sha256.{ch, maj, Σ₀, Σ₁, σ₀, σ₁, word, bytes_of, zeros, pad, words, block, H0 as h0, ◌⊞◌, schedule, round, rounds, plus, compress, output, sha256};
 
 mod constants;
 
 use constants::{H0, K};
 
 // Eight words: the value between blocks, and the working variables of the rounds.
-#[derive(Drop)]
+#[derive(Clone, Copy)]
 struct Words {
     a: u32,
     b: u32,
@@ -124,7 +126,7 @@ fn block(m: &[u8], i: usize) -> [u32; 16]
 
 // 5.3.3: the value to start from.
 fn start() -> Words
-    ensures { result ≡ H0 }
+    ensures { result ≡ h0 }
 {
     Words {
         a: H0[0],

@@ -1,4 +1,6 @@
 // The digest for a C program: speed/digest.c measures it.
+#![tactic(auto)]
+
 ghost use Rattle.std.specs.Prelude.{◌≡◌};
 ghost use Rattle.digest.specs.Sha256.{sha256};
 

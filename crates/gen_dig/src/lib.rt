@@ -1,4 +1,6 @@
 // GenDig.
+#![tactic(auto)]
+
 ghost use Rattle.std.specs.Prelude.{◌≡◌, true, ◌&&◌, ◌||◌, length};
 ghost use Rattle.wire.specs.Wire.{if◌then◌else◌};
 ghost use Rattle.rules.specs.Words.{◌under◌};

@@ -1,4 +1,6 @@
 // MAC, and the two rows that open its message, which CheckMac shares.
+#![tactic(auto)]
+
 ghost use Rattle.std.specs.Prelude.{◌≡◌, true};
 ghost use Rattle.rules.specs.Plan.{reply, settle};
 ghost use Rattle.rules.specs.Mac.{mac_shape, uses_temp_key, draws_key, mac_temp_key, mac_slot, mac_free, first_row, second_row, mac_digest, mac};

@@ -1,4 +1,6 @@
 // The messages of the commands, put together field by field, and their digests.
+#![tactic(auto)]
+
 ghost use Rattle.std.specs.Prelude.{◌≡◌, ◌||◌, ◌++◌, ◌+◌, ◌≤◌, length, take, drop};
 ghost use Rattle.digest.specs.Sha256.{sha256};
 ghost use Rattle.wire.specs.Wire.{if◌then◌else◌};

@@ -1,4 +1,6 @@
 // Nonce and Random.
+#![tactic(auto)]
+
 ghost use Rattle.std.specs.Prelude.{◌≡◌};
 ghost use Rattle.rules.specs.Plan.{reply, settle};
 ghost use Rattle.rules.specs.Nonce.{used_random, nonce_shape, nonce, random_shape, random};

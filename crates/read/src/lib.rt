@@ -1,4 +1,6 @@
 // Read.
+#![tactic(auto)]
+
 ghost use Rattle.std.specs.Prelude.{◌≡◌, true, ◌&&◌, ◌+◌, ◌≤◌, length, take, drop};
 ghost use Rattle.rules.specs.Words.{bit, xor_row};
 ghost use Rattle.rules.specs.State.{slot_bytes, encrypt_read, read_key};

@@ -1,4 +1,6 @@
 // The bench program's records, as functions on slices; its lines are in `lines`.
+#![tactic(auto)]
+
 ghost use Rattle.std.specs.Prelude.{◌≡◌, ◌∷◌, [], take};
 ghost use Rattle.rules.specs.Words.{equal, byte};
 ghost use Rattle.records.specs.Records.{announced, uncut, first, length_of, record_at};
@@ -7,7 +9,7 @@ pub mod fields;
 pub mod lines;
 
 // What stands at an offset of the input.
-#[derive(Drop)]
+#[derive(Clone, Copy)]
 pub enum Record {
     Image,
     Wake,

@@ -1,4 +1,6 @@
 // Replies that most commands end in.
+#![tactic(auto)]
+
 ghost use Rattle.std.specs.Prelude.{◌≡◌, ◌∷◌};
 ghost use Rattle.rules.specs.Words.{zeros};
 ghost use Rattle.rules.specs.State.{status_byte, emptied, taken};

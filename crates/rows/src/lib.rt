@@ -1,4 +1,6 @@
 // Rows of bytes: parts of a slice, a slot's bytes, comparing, XOR.
+#![tactic(auto)]
+
 ghost use Rattle.std.specs.Prelude.{◌≡◌};
 ghost use Rattle.rules.specs.Words.{equal, xor_row};
 ghost use Rattle.rules.specs.State.{slot_bytes};

@@ -1,4 +1,6 @@
 // Bytes stored in a zone, one after the other; a byte beyond the zone stores nothing.
+#![tactic(auto)]
+
 ghost use Rattle.std.specs.Prelude.{◌≡◌, ◌*◌};
 ghost use Rattle.rules.specs.State.{index};
 ghost use Rattle.rules.specs.Plan.{in_config, in_otp, in_data, store, store_all, upwards};

@@ -7,7 +7,7 @@ use crate::Token;
 use rules::{Device, Number, Power};
 
 // A fresh state and its number.
-#[derive(Drop)]
+#[derive(Clone, Copy)]
 pub struct Made {
     pub token: Token,
     pub number: Number,

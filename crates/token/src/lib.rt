@@ -1,4 +1,6 @@
 // The token: a fresh state from an image, the four events as methods on it, and the answer's front part.
+#![tactic(auto)]
+
 ghost use Rattle.std.specs.Prelude.{◌≡◌, true, ◌∷◌, [], ◌++◌, ◌+◌, ◌*◌, ◌≤◌, length, drop};
 ghost use Rattle.wire.specs.Wire.{frame};
 ghost use Rattle.rules.specs.State.{number_of, status_byte, is_awake};
@@ -12,14 +14,14 @@ use rules::{Device, Fields, Number, Power, Reply, Status};
 pub mod fresh;
 
 // The state: the three zones and TempKey, and power.
-#[derive(Drop)]
+#[derive(Clone, Copy)]
 pub struct Token {
     pub device: Device,
     pub power: Power,
 }
 
 // What an event gives: the new state, its number and the answer's length.
-#[derive(Drop)]
+#[derive(Clone, Copy)]
 pub struct Outcome {
     pub token: Token,
     pub number: Number,
@@ -117,8 +119,8 @@ fn pair(low: u8, high: u8) -> u16
 
 // A whole block's command.
 fn run_block(d: Device, block: &[u8], random: &[u8]) -> Reply
-    requires in_bounds { 7 ≤ length block.now }
-    requires random_len { length random.now ≡ 32 }
+    requires block_fits { 7 ≤ length block.now }
+    requires random_length { length random.now ≡ 32 }
     ensures { result ≡ reply (plan_for d block.now random.now) d }
 {
     let end = block.len() - 2;
@@ -141,9 +143,9 @@ fn put_status(output: &mut [u8], s: Status) -> usize
 
 // A block given to a token that is Awake, with buffers that are right.
 fn answer_block(token: Token, block: &[u8], random: &[u8], output: &mut [u8]) -> Outcome
-    requires power_value { is_awake token.power ≡ true }
-    requires random_len { length random.now ≡ 32 }
-    requires in_bounds { 35 ≤ length output.old }
+    requires awake { is_awake token.power ≡ true }
+    requires random_length { length random.now ≡ 32 }
+    requires output_fits { 35 ≤ length output.old }
     ensures value { result ≡ outcome token (block_turn token.device token.power block.now random.now) random.now output.old }
     ensures output_after { output.new ≡ output_after (block_turn token.device token.power block.now random.now) random.now output.old }
 {

@@ -1,4 +1,6 @@
 // Lock, UpdateExtra and DevRev.
+#![tactic(auto)]
+
 ghost use Rattle.std.specs.Prelude.{◌≡◌, ◌||◌, ◌%◌};
 ghost use Rattle.wire.specs.Wire.{if◌then◌else◌};
 ghost use Rattle.rules.specs.Words.{◌⇒◌, ◌is◌};

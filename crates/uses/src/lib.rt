@@ -1,4 +1,6 @@
 // Uses: leading zeros find the bit that a use clears, uses left are the count of ones.
+#![tactic(auto)]
+
 ghost use Rattle.std.specs.Prelude.{◌≡◌, []};
 ghost use Rattle.wire.specs.Wire.{if◌then◌else◌};
 ghost use Rattle.rules.specs.Plan.{store_all};

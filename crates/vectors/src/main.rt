@@ -1,5 +1,7 @@
 // Prints the vectors of FIPS 180-4 and, for every length from 0 to 200, that the digest of a message of that length is right:
 // a line for each sixteen lengths, the digest of their digests. Run and compared with crates/vectors/stdout.
+#![tactic(auto)]
+
 use libc::STDOUT_FILENO;
 
 // A digest in hexadecimal, and the end of the line.

@@ -1,4 +1,6 @@
 // The check value, the frame of an answer, and whether a block is whole.
+#![tactic(auto)]
+
 ghost use Rattle.std.specs.Prelude.{◌≡◌, ◌++◌, ◌+◌, ◌*◌, ◌≤◌, length, drop};
 ghost use Rattle.wire.specs.Reversed.{reversed};
 ghost use Rattle.wire.specs.Wire.{bits_in, check_from, frame, put_length, put_output, whole};
@@ -38,8 +40,8 @@ pub fn check_value(start: u16, s: &[u8]) -> u16
 
 // The frame of an answer that fits, at the front of the output.
 fn put_fitting(out: &mut [u8], p: &[u8]) -> usize
-    requires p_len_bound { length p.now ≤ 32 }
-    requires in_bounds { 35 ≤ length out.old }
+    requires short_enough { length p.now ≤ 32 }
+    requires room { 35 ≤ length out.old }
     ensures value { result ≡ length p.now + 3 }
     ensures out_after { out.new ≡ frame p.now ++ drop (length p.now + 3) out.old }
 {

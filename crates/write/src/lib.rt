@@ -1,4 +1,6 @@
 // Write: what it stores, once its shape and its conditions (free.rt) hold.
+#![tactic(auto)]
+
 ghost use Rattle.std.specs.Prelude.{◌≡◌, true, [], ◌+◌, ◌≤◌, length, take, drop};
 ghost use Rattle.digest.specs.Sha256.{sha256};
 ghost use Rattle.wire.specs.Wire.{if◌then◌else◌};
@@ -48,8 +50,8 @@ fn mac_right(d: Device, f: Fields, value: [u8; 32], mac: [u8; 32]) -> bool
 
 // Old AND new, in the first bytes of a row.
 fn old_and_new(d: Device, f: Fields, value: &[u8]) -> [u8; 32]
-    requires value_len { length value.now ≡ size f }
-    requires f_bound { position f + size f ≤ 64 }
+    requires value_length { length value.now ≡ size f }
+    requires within { position f + size f ≤ 64 }
     ensures { take (size f) result ≡ and_row (take (size f) (drop (position f) d.otp)) value.now }
 {
     let z = d.otp;
@@ -61,8 +63,8 @@ fn old_and_new(d: Device, f: Fields, value: &[u8]) -> [u8; 32]
 
 // A value stored in OTP: with values locked old AND new.
 fn write_otp(d: Device, f: Fields, value: &[u8]) -> Device
-    requires value_len { length value.now ≡ size f }
-    requires f_bound { position f + size f ≤ 64 }
+    requires value_length { length value.now ≡ size f }
+    requires within { position f + size f ≤ 64 }
     ensures { result ≡ store_all d (upwards in_otp (position f) (otp_written d f value.now)) }
 {
     let c = d.config;
@@ -78,8 +80,8 @@ fn write_otp(d: Device, f: Fields, value: &[u8]) -> Device
 
 // A value stored where the fields say.
 fn write_value(d: Device, f: Fields, value: &[u8]) -> Device
-    requires value_len { length value.now ≡ size f }
-    requires f_value { address_fits f ≡ true }
+    requires value_length { length value.now ≡ size f }
+    requires address { address_fits f ≡ true }
     ensures { result ≡ store_all d (written d f value.now) }
 {
     let zone = f.param1 % 4;
@@ -92,9 +94,9 @@ fn write_value(d: Device, f: Fields, value: &[u8]) -> Device
 
 // An encrypted write: its MAC decides.
 fn write_encrypted(d: Device, f: Fields, input: &[u8]) -> Reply
-    requires input_len { length input.now ≡ 64 }
-    requires f_value { size f ≡ 32 }
-    requires f_value_2 { address_fits f ≡ true }
+    requires input_length { length input.now ≡ 64 }
+    requires whole_row { size f ≡ 32 }
+    requires address { address_fits f ≡ true }
     ensures { result ≡ reply (if equal (write_mac d f input.now) (bytes 32 63 input.now) then puts (written d f (plain d input.now)) else refused_after []) d }
 {
     let value = plain_of(d, input);
@@ -109,8 +111,8 @@ fn write_encrypted(d: Device, f: Fields, input: &[u8]) -> Reply
 
 // What a write comes to once its shape and its conditions before the digest hold.
 fn write_checked(d: Device, f: Fields, input: &[u8]) -> Reply
-    requires input_value { write_shape f input.now ≡ true }
-    requires input_value_2 { write_free d f input.now ≡ true }
+    requires shaped { write_shape f input.now ≡ true }
+    requires allowed { write_free d f input.now ≡ true }
     ensures { result ≡ reply (write_effect d f input.now) d }
 {
     let c = d.config;

@@ -1,0 +1,6 @@
+-- The fresh state is handed on.
+use borrow.Author.Rules.{rules}
+use Rattle.bench.proofs.image.Goals as goal
+
+pub returns : goal.returns
+returns c = rw c.fresh-made.ensures

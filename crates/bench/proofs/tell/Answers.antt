@@ -1,0 +1,13 @@
+-- The answer is the front part of the output, and the line is put where it fits.
+use Prim.Native.Nat.{◌-◌, ◌≤◌}
+use native.Mathlib.Omega.{arith}
+use lib.ListN.{length}
+use Rattle.records.proofs.Within.{put_within}
+use Rattle.bench.proofs.Line.{told}
+use borrow.Author.Rules.{rules}
+use Rattle.bench.proofs.tell.Goals as goal
+
+pub returns : goal.returns
+returns c =
+    let x = c.args in
+    told x.token x.input.now x.at _ x.out.now x.used c.requires.1.1 c.record_at-what.ensures c.length_of-taken.ensures c.step-next.ensures c.front.ensures c.put_line-length.ensures

@@ -1,0 +1,6 @@
+-- The two tests are those of the rule.
+use Rattle.std.proofs.Common.{rules}
+use Rattle.derive_key.proofs.mac_present.Goals as goal
+
+pub returns : goal.returns
+returns c = rw c.asks_mac.ensures

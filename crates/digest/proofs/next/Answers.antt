@@ -1,0 +1,6 @@
+-- The sums in the order of the formula.
+use Rattle.std.proofs.Common.{rules}
+use Rattle.digest.proofs.next.Goals as goal
+
+pub returns : goal.returns
+returns c = cc

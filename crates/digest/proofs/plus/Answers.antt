@@ -1,0 +1,8 @@
+-- The eight sums.
+use Rattle.std.proofs.Common.{rules}
+use Rattle.digest.specs.Sha256.{plus}
+use Rattle.digest.proofs.plus.Goals as goal
+
+pub returns : goal.returns
+unfolding plus
+returns c = cc

@@ -1,0 +1,11 @@
+-- The loop's invariant: the first t words are those of the schedule.
+use Rattle.std.proofs.Common.{◌≡◌, ◌-◌, ◌≤◌, length, take, refl, arith, rules}
+use Rattle.digest.specs.Sha256.{next, schedule_to}
+use Rattle.digest.proofs.ScheduleLaws.{schedule_more, schedule_done}
+use Rattle.digest.proofs.schedule.Given as goal
+
+abbrev pub invariant-loop-t : goal.invariant-loop-t
+invariant-loop-t l = (16 ≤ l.t) × (l.t ≤ 64) × (length l.w ≡ 64) × (take l.t l.w ≡ schedule_to (l.t - 16) (take 16 l.initial.w))
+
+abbrev pub decreases-loop-t : goal.decreases-loop-t
+decreases-loop-t l = 64 - l.t

@@ -1,0 +1,8 @@
+-- The three conditions are those of the rule.
+use Rattle.rules.specs.Mac.{mac_free}
+use borrow.Author.Rules.{rules}
+use Rattle.mac.proofs.mac_free.Goals as goal
+
+pub returns : goal.returns
+unfolding mac_free
+returns c = rw (c.mac_slot.ensures, c.mac_temp_key.ensures, c.both_locked.ensures)

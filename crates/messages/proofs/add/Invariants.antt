@@ -1,0 +1,15 @@
+-- After i turns the first i bytes are copied behind the first n.
+use Prim.Native.Nat.{◌-◌, ◌≤◌, ◌<◌}
+use mathlib.Core.Path.{◌≡◌}
+use native.Mathlib.Omega.{arith}
+use native.Mathlib.Numerals.{add-one}
+use lib.ListN.{length, drop, length-drop}
+use lib.Seq.{paste, paste-zero, paste-suc, take-paste, get_or-drop}
+use borrow.Author.Rules.{rules}
+use Rattle.messages.proofs.add.Given as goal
+
+abbrev pub invariant-loop-i : goal.invariant-loop-i
+invariant-loop-i l = (l.i ≤ l.k) × (l.b ≡ paste l.initial.b l.n (drop l.at l.s) l.i)
+
+abbrev pub decreases-loop-i : goal.decreases-loop-i
+decreases-loop-i l = l.k - l.i

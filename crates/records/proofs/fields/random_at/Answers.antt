@@ -1,0 +1,6 @@
+-- What the callees leave is the definition's part.
+use borrow.Author.Rules.{rules}
+use Rattle.records.proofs.fields.random_at.Goals as goal
+
+pub returns : goal.returns
+returns c = rw (c.front.ensures, c.from-2.ensures, c.from.ensures)

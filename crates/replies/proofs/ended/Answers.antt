@@ -1,0 +1,6 @@
+-- The one field that is stored is TempKey.
+use borrow.Author.Rules.{rules}
+use Rattle.replies.proofs.ended.Goals as goal
+
+pub returns : goal.returns
+returns c = rw c.emptied_key-device.ensures

@@ -1,0 +1,19 @@
+-- At each turn the stores left, on what is stored so far, give what all of them give; the end of the zone ends them.
+use Prim.Native.Nat.{◌+◌, ◌-◌, min, ◌≤◌}
+use mathlib.Core.Path.{◌≡◌, sym, ◌∙◌}
+use native.Mathlib.Omega.{arith}
+use native.Mathlib.Nat.{add-zero}
+use lib.ListN.{length, drop, length-set}
+use Rattle.rules.specs.Plan.{in_config, store_all, upwards}
+use Rattle.rules.proofs.Stores.{config_zone, stored_more, stored_end}
+use Rattle.rows.proofs.Row.{fitting_min}
+use borrow.Author.Rules.{rules}
+use Rattle.stores.proofs.store_config_row.Given as goal
+
+abbrev pub invariant-loop-i : goal.invariant-loop-i
+invariant-loop-i l =
+    (l.n ≡ min (length l.row) (88 - l.at))
+    × ((l.i ≤ l.n) × ((length l.next.config ≡ 88) × (store_all l.next (upwards in_config (l.at + l.i) (drop l.i l.row)) ≡ store_all l.initial.next (upwards in_config l.at l.row))))
+
+abbrev pub decreases-loop-i : goal.decreases-loop-i
+decreases-loop-i l = l.n - l.i

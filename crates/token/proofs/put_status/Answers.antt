@@ -1,0 +1,15 @@
+-- `token::put_status` meets its contract: one byte fits an output of 35.
+use mathlib.Core.Path.{◌∙◌}
+use mathlib.Core.List.{◌∷◌, []}
+use native.Mathlib.Omega.{arith}
+use lib.Dec.{lit≤}
+use Rattle.wire.proofs.Laws.{put_fits}
+use borrow.Author.Rules.{rules}
+use Rattle.token.proofs.put_status.Goals as goal
+
+pub returns : goal.returns
+returns c =
+    let put = c.put.ensures in
+    let status = c.status_byte in
+    let fit = put_fits c.args.output.now (status.result ∷ []) (lit≤ tt) (omega arith) in
+    record { value = put.0 ∙ fit.0; output_after = put.1 ∙ fit.1 ∙ rw status.ensures }

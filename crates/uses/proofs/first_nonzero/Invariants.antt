@@ -1,0 +1,15 @@
+-- At each turn the first that is not zero among the bytes left is the first of all.
+use Prim.Native.Nat.{◌-◌, ◌≤◌}
+use mathlib.Core.Path.{◌≡◌, refl}
+use native.Mathlib.Omega.{arith}
+use borrow.Author.Tests.{eq-eqb, ne_eqb}
+use Rattle.rules.specs.Uses.{first_nonzero}
+use Rattle.rules.proofs.Uses.{first_step}
+use borrow.Author.Rules.{rules}
+use Rattle.uses.proofs.first_nonzero.Given as goal
+
+abbrev pub invariant-loop-i : goal.invariant-loop-i
+invariant-loop-i l = (68 ≤ l.i) × ((l.i ≤ 83) × (first_nonzero l.c l.i (83 - l.i) ≡ first_nonzero l.c 68 15))
+
+abbrev pub decreases-loop-i : goal.decreases-loop-i
+decreases-loop-i l = 83 - l.i

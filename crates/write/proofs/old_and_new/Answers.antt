@@ -12,5 +12,5 @@ pub returns : goal.returns
 returns c =
     let a = c.args in
     let h : length a.d.otp ≡ 64 = search (rules, c.well_formed.0) in
-    let both = and_taken a.d.otp a.value.now (position a.f) (size a.f) (size_small a.f) (omega arith) c.requires.0 in
+    let both = and_taken a.d.otp a.value.now (position a.f) (size a.f) (size_small a.f) (omega arith) c.requires.value_length in
     rw (c.and_row.ensures, c.row_of-old.ensures, c.row_of-new.ensures, c.position_of.ensures, c.size_of-n.ensures) both

@@ -11,15 +11,15 @@ pub write_encrypted-requires : goal.write_encrypted-requires
 write_encrypted-requires c =
     let f = c.args.f in
     let input = c.args.input.now in
-    let mac = mac_encrypted c.args.d f input c.requires.1 ∙ sym c.is_encrypted.ensures ∙ c.if-is_encrypted.true in
-    (eqb-true _ _ mac, (size_mac f input c.requires.0 mac, write_fits f input c.requires.0))
+    let mac = mac_encrypted c.args.d f input c.requires.allowed ∙ sym c.is_encrypted.ensures ∙ c.if-is_encrypted.true in
+    record { input_length = eqb-true _ _ mac; whole_row = size_mac f input c.requires.shaped mac; address = write_fits f input c.requires.shaped }
 
 pub write_value-after-requires : goal.write_value-after-requires
 write_value-after-requires c =
     let f = c.args.f in
     let input = c.args.input.now in
-    let none = mac_encrypted c.args.d f input c.requires.1 ∙ sym c.is_encrypted.ensures ∙ c.if-is_encrypted.false in
-    record { value_length = size_clear f input c.requires.0 none; address = write_fits f input c.requires.0 }
+    let none = mac_encrypted c.args.d f input c.requires.allowed ∙ sym c.is_encrypted.ensures ∙ c.if-is_encrypted.false in
+    record { value_length = size_clear f input c.requires.shaped none; address = write_fits f input c.requires.shaped }
 
 pub returns-then-is_encrypted : goal.returns-then-is_encrypted
 unfolding write_effect

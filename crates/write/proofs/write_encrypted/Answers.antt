@@ -12,7 +12,7 @@ returns-then-mac_right c =
     let input = c.args.input.now in
     let mac = c.row_of-mac.ensures ∙ row_whole input 32 (omega arith) in
     let right = sym c.mac_right.ensures ∙ c.if-mac_right.true in
-    rw (← mac, ← c.plain_of_lem.ensures, right, c.said.ensures, c.write_value-stored.ensures)
+    rw (← mac, ← c.plain_of-value.ensures, right, c.said.ensures, c.write_value-stored.ensures)
 
 pub returns-else-mac_right : goal.returns-else-mac_right
 unfolding write_mac
@@ -20,4 +20,4 @@ returns-else-mac_right c =
     let input = c.args.input.now in
     let mac = c.row_of-mac.ensures ∙ row_whole input 32 (omega arith) in
     let wrong = sym c.mac_right.ensures ∙ c.if-mac_right.false in
-    rw (← mac, ← c.plain_of_lem.ensures, wrong) c.said-else-mac_right.ensures
+    rw (← mac, ← c.plain_of-value.ensures, wrong) c.said-else-mac_right.ensures

@@ -7,7 +7,7 @@ use Rattle.write.proofs.write_value.Goals as goal
 
 pub write_otp-requires : goal.write_otp-requires
 write_otp-requires c =
-    record { value_length = c.requires.0; within = otp_within c.args.f c.requires.1 c.in-1.is }
+    record { value_length = c.requires.value_length; within = otp_within c.args.f c.requires.address c.in-1.is }
 
 pub returns-in-0 : goal.returns-in-0
 unfolding written

@@ -1,16 +1,16 @@
 // Runs the records of standard input on a token and prints a line for each.
 #![tactic(auto)]
 
-ghost use Rattle.std.specs.Prelude.{◌≡◌, ◌+◌, ◌≤◌, ◌<◌, length};
+ghost use Rattle.std.specs.Prelude.{◌≡◌, ◌+◌, ◌≤◌, ◌<◌, IfOk, length};
 ghost use Rattle.std.proofs.lemmas.List.Edits.{sets};
 ghost use Rattle.rules.specs.declared.Number.TheVariants.{NoAnswer};
 ghost use Rattle.token.specs.Outcome.{unchanged, fresh_of};
 ghost use Rattle.records.specs.Records.{record_at, length_of};
 ghost use Rattle.bench.specs.Bench.{turn_of, turn_at, after, outcome_of, in_front, line_at, lines, printed};
 
-use libc::{STDIN_FILENO, STDOUT_FILENO};
 use records::{Record, fields, lines};
 use rules::Number;
+use std::io::{self, Read};
 use token::{Outcome, Token};
 
 // EE makes a fresh state, and has no answer.
@@ -137,10 +137,24 @@ fn room_for_lines() -> [u8; 458762]
     [0u8; 458762]
 }
 
-fn main() {
+// Reads until the room is full or the input ends; how many bytes there are.
+fn read_full(from: &mut impl Read, room: &mut [u8]) -> io::Result<usize>
+    ensures { IfOk result (λ n. n ≤ length room.new) }
+{
+    let mut n: usize = 0;
+    loop {
+        let more = from.read(&mut room[n..])?;
+        if more == 0 {
+            return Ok(n);
+        }
+        n += more;
+    }
+}
+
+fn main(rt: HostRuntime) -> io::Result<()> {
     let mut input = room_for_input();
     let mut out = room_for_lines();
-    let n = io::read_full(STDIN_FILENO, &mut input);
+    let n = read_full(&mut rt.stdin(), &mut input)?;
     let used = print(&input[..n], &mut out);
-    io::write_all(STDOUT_FILENO, &out[..used]);
+    rt.write_all(&out[..used])
 }

@@ -13,17 +13,26 @@ use Rattle.desk.specs.Desk.{is_state, loaded, saved, number, state_after, output
 module _ (s : List ℕ) (e : Event) (random output : List ℕ) where
   -- the four promises of an event's call
   abbrev pub Kept : ℕ → List ℕ → List ℕ → ℕ → Type 0
-  Kept n after out l =
-      (n ≡ number s e random output)
-      × ((after ≡ state_after s e random output) × ((out ≡ output_of s e random output) × (l ≡ answer_length s e random output)))
+  Kept n after out l = record {
+    value : n ≡ number s e random output;
+    state_after : after ≡ state_after s e random output;
+    output_after : out ≡ output_of s e random output;
+    length_after : l ≡ answer_length s e random output;
+  }
 
   pub given : is_state s ≡ true → {t : Token} {o : Outcome} {n l : ℕ} {after out : List ℕ} → t ≡ loaded s
-      → (o ≡ outcome t (turn t.device t.power e random) random output) × (out ≡ output_after (turn t.device t.power e random) random output)
-      → (n ≡ number_of o.number) × ((after ≡ saved o.token) × (l ≡ o.length))
+      → record {
+        value : o ≡ outcome t (turn t.device t.power e random) random output;
+        output_after : out ≡ output_after (turn t.device t.power e random) random output;
+      }
+      → record { value : n ≡ number_of o.number; state_after : after ≡ saved o.token; len_after : l ≡ o.length }
       → Kept n after out l
   unfolding number state_after output_of answer_length
-  given h t o g = rw (h, g.0, g.1.0, g.1.1, o.0, o.1, t) (refl, (refl, (refl, refl)))
+  given h t o g =
+      rw (h, g.value, g.state_after, g.len_after, o.value, o.output_after, t)
+      (record { value = refl; state_after = refl; output_after = refl; length_after = refl })
 
-  pub refused : is_state s ≡ false → {n l : ℕ} → (n ≡ 40) × (l ≡ 0) → Kept n s output l
+  pub refused : is_state s ≡ false → {n l : ℕ} → record { value : n ≡ 40; len_after : l ≡ 0 } → Kept n s output l
   unfolding number state_after output_of answer_length
-  refused h g = rw (h, g.0, g.1) (refl, (refl, (refl, refl)))
+  refused h g =
+      rw (h, g.value, g.len_after) (record { value = refl; state_after = refl; output_after = refl; length_after = refl })

@@ -1,4 +1,4 @@
-// The desk's C interface (include/chhutirok.h): a token is 702 lent bytes, which each call loads and saves.
+// The desk's interface, which desk_c exports for C (include/chhutirok.h): a token is 702 lent bytes, which each call loads and saves.
 #![tactic(auto)]
 
 ghost use Rattle.std.specs.Prelude.{◌≡◌, ◌+◌, ◌≤◌, length};
@@ -157,8 +157,7 @@ fn refuse(len: &mut usize) -> u32
     40
 }
 
-#[unsafe(no_mangle)]
-pub extern "C" fn chhutirok_fresh(image: &[u8], state: &mut [u8]) -> u32
+pub fn chhutirok_fresh(image: &[u8], state: &mut [u8]) -> u32
     ensures value { result ≡ fresh_call_number image.now state.old }
     ensures state_after { state.new ≡ fresh_state image.now state.old }
 {
@@ -173,13 +172,7 @@ pub extern "C" fn chhutirok_fresh(image: &[u8], state: &mut [u8]) -> u32
     }
 }
 
-#[unsafe(no_mangle)]
-pub extern "C" fn chhutirok_wake(
-    state: &mut [u8],
-    random: &[u8],
-    output: &mut [u8],
-    length: &mut usize,
-) -> u32
+pub fn chhutirok_wake(state: &mut [u8], random: &[u8], output: &mut [u8], length: &mut usize) -> u32
     ensures value { result ≡ number state.old wake random.now output.old }
     ensures state_after { state.new ≡ state_after state.old wake random.now output.old }
     ensures output_after { output.new ≡ output_of state.old wake random.now output.old }
@@ -194,13 +187,7 @@ pub extern "C" fn chhutirok_wake(
     }
 }
 
-#[unsafe(no_mangle)]
-pub extern "C" fn chhutirok_idle(
-    state: &mut [u8],
-    random: &[u8],
-    output: &mut [u8],
-    length: &mut usize,
-) -> u32
+pub fn chhutirok_idle(state: &mut [u8], random: &[u8], output: &mut [u8], length: &mut usize) -> u32
     ensures value { result ≡ number state.old idle random.now output.old }
     ensures state_after { state.new ≡ state_after state.old idle random.now output.old }
     ensures output_after { output.new ≡ output_of state.old idle random.now output.old }
@@ -215,8 +202,7 @@ pub extern "C" fn chhutirok_idle(
     }
 }
 
-#[unsafe(no_mangle)]
-pub extern "C" fn chhutirok_sleep(
+pub fn chhutirok_sleep(
     state: &mut [u8],
     random: &[u8],
     output: &mut [u8],
@@ -236,8 +222,7 @@ pub extern "C" fn chhutirok_sleep(
     }
 }
 
-#[unsafe(no_mangle)]
-pub extern "C" fn chhutirok_block(
+pub fn chhutirok_block(
     state: &mut [u8],
     sent: &[u8],
     random: &[u8],

@@ -2,16 +2,16 @@
 // a line for each sixteen lengths, the digest of their digests. Run and compared with crates/vectors/stdout.
 #![tactic(auto)]
 
-use libc::STDOUT_FILENO;
+use std::io;
 
 // A digest in hexadecimal, and the end of the line.
-fn show(d: [u8; 32]) {
+fn show(rt: &impl Print, d: [u8; 32]) -> io::Result<()> {
     let mut i: usize = 0;
     while i < 32 {
-        io::print_hex(STDOUT_FILENO, d[i] as u64, 2);
+        print!(rt; "{:02x}", d[i])?;
         i += 1;
     }
-    io::write_all(STDOUT_FILENO, b"\n");
+    println!(rt;)
 }
 
 // A message of which no two bytes near each other are equal.
@@ -64,17 +64,24 @@ fn million() -> [u8; 32] {
     digest::digest(&m)
 }
 
-fn main() {
-    show(digest::digest(b""));
-    show(digest::digest(b"abc"));
-    show(digest::digest(b"abcdbcdecdefdefgefghfghighijhijkijkljklmklmnlmnomnopnopq"));
-    show(digest::digest(
-        b"abcdefghbcdefghicdefghijdefghijkefghijklfghijklmghijklmnhijklmnoijklmnopjklmnopqklmnopqrlmnopqrsmnopqrstnopqrstu",
-    ));
-    show(million());
+fn main(rt: HostRuntime) -> io::Result<()> {
+    show(&rt, digest::digest(b""))?;
+    show(&rt, digest::digest(b"abc"))?;
+    show(
+        &rt,
+        digest::digest(b"abcdbcdecdefdefgefghfghighijhijkijkljklmklmnlmnomnopnopq"),
+    )?;
+    show(
+        &rt,
+        digest::digest(
+            b"abcdefghbcdefghicdefghijdefghijkefghijklfghijklmghijklmnhijklmnoijklmnopjklmnopqklmnopqrlmnopqrsmnopqrstnopqrstu",
+        ),
+    )?;
+    show(&rt, million())?;
     let mut n: usize = 0;
     while n <= 200 {
-        show(sixteen(n));
+        show(&rt, sixteen(n))?;
         n += 16;
     }
+    Ok(())
 }

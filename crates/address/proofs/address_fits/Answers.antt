@@ -6,7 +6,6 @@ use native.Mathlib.Omega.{arith}
 use borrow.Author.Tests.{ne_eqb, le-leb, lt-leb}
 use Rattle.rules.specs.Address.{address_fits}
 use Rattle.rules.proofs.Tests.{then_true, then_false}
-use borrow.Author.Rules.{rules}
 use Rattle.address.proofs.address_fits.Goals as goal
 
 pub returns-in-0-to-15 : goal.returns-in-0-to-15

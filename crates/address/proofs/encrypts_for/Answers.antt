@@ -1,6 +1,5 @@
 -- The slot's number, and SourceFlag against the bit.
 use Rattle.rules.specs.Address.{encrypts_for}
-use borrow.Author.Rules.{rules}
 use Rattle.address.proofs.encrypts_for.Goals as goal
 
 pub returns : goal.returns

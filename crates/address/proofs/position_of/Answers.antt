@@ -1,7 +1,6 @@
 -- Bit 7 decides.
 use borrow.Author.Tests.{eq-eqb, ne_eqb}
 use Rattle.rules.specs.Address.{position}
-use borrow.Author.Rules.{rules}
 use Rattle.address.proofs.position_of.Goals as goal
 
 pub returns-then-f-eq1 : goal.returns-then-f-eq1

@@ -1,5 +1,4 @@
 -- Bits 6-3 of the word.
-use borrow.Author.Rules.{rules}
 use Rattle.address.proofs.slot_of.Goals as goal
 
 pub returns : goal.returns

@@ -3,7 +3,6 @@ use mathlib.Core.Path.{sym, ◌∙◌}
 use Rattle.rules.specs.Mac.{key_spent}
 use Rattle.rules.specs.CheckMac.{check_mac_effect, check_mac}
 use Rattle.check_mac.proofs.Sent.{check_length}
-use borrow.Author.Rules.{rules}
 use Rattle.check_mac.proofs.check_mac.Goals as goal
 
 pub check_mac_equal-same-requires : goal.check_mac_equal-same-requires

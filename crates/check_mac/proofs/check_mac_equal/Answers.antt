@@ -1,5 +1,4 @@
 -- The digest and the response are compared.
-use borrow.Author.Rules.{rules}
 use Rattle.check_mac.proofs.check_mac_equal.Goals as goal
 
 pub returns : goal.returns

@@ -1,6 +1,5 @@
 -- The three conditions are those of the rule.
 use Rattle.rules.specs.CheckMac.{check_mac_free}
-use borrow.Author.Rules.{rules}
 use Rattle.check_mac.proofs.check_mac_free.Goals as goal
 
 pub returns : goal.returns

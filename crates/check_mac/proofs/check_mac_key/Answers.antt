@@ -1,6 +1,5 @@
 -- It copies where the rule copies.
 use Rattle.rules.specs.CheckMac.{check_mac_key}
-use borrow.Author.Rules.{rules}
 use Rattle.check_mac.proofs.check_mac_key.Goals as goal
 
 pub returns-then-same-copy_holds : goal.returns-then-same-copy_holds

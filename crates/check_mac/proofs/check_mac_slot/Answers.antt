@@ -1,7 +1,6 @@
 -- A use is asked for where the slot is drawn on.
 use mathlib.Core.Path.{sym, ◌∙◌}
 use Rattle.rules.specs.CheckMac.{check_mac_slot}
-use borrow.Author.Rules.{rules}
 use Rattle.check_mac.proofs.check_mac_slot.Goals as goal
 
 pub returns-then-draws_key : goal.returns-then-draws_key

@@ -1,7 +1,6 @@
 -- What is asked of TempKey is asked where it is used.
 use mathlib.Core.Path.{sym, ◌∙◌}
 use Rattle.rules.specs.CheckMac.{check_mac_temp_key}
-use borrow.Author.Rules.{rules}
 use Rattle.check_mac.proofs.check_mac_temp_key.Goals as goal
 
 pub returns-then-uses_temp_key : goal.returns-then-uses_temp_key

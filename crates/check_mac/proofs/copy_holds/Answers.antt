@@ -1,6 +1,5 @@
 -- The conditions are those of the rule.
 use Rattle.rules.specs.CheckMac.{copy_holds}
-use borrow.Author.Rules.{rules}
 use Rattle.check_mac.proofs.copy_holds.Goals as goal
 
 pub returns : goal.returns

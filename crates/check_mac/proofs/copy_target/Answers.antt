@@ -1,6 +1,5 @@
 -- The key is below 16 already.
 use native.Mathlib.Nat.{mod-mod}
-use borrow.Author.Rules.{rules}
 use Rattle.check_mac.proofs.copy_target.Goals as goal
 
 pub returns : goal.returns

@@ -1,6 +1,5 @@
 -- The two tests are joined as the rule joins them.
 use mathlib.Core.Path.{sym, ◌∙◌}
-use borrow.Author.Rules.{rules}
 use Rattle.config.proofs.both_locked.Goals as goal
 
 pub returns-then-config : goal.returns-then-config

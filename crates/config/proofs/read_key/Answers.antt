@@ -1,5 +1,4 @@
 -- The low four bits of SlotConfig.
-use borrow.Author.Rules.{rules}
 use Rattle.config.proofs.read_key.Goals as goal
 
 pub returns : goal.returns

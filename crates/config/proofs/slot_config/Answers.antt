@@ -2,11 +2,7 @@
 use Prim.Native.Nat.{◌+◌, ◌*◌, ◌%◌}
 use mathlib.Core.Path.{◌≡◌}
 use native.Mathlib.Omega.{arith}
-use lib.ListN.{get_or}
-use mir.Val.{Fits}
-use mir.Syntax.{w8}
 use Rattle.rules.specs.State.{slot_config}
-use borrow.Author.Rules.{rules}
 use Rattle.config.proofs.slot_config.Goals as goal
 
 pub returns : goal.returns

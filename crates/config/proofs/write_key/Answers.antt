@@ -1,5 +1,4 @@
 -- Bits 11-8 of SlotConfig.
-use borrow.Author.Rules.{rules}
 use Rattle.config.proofs.write_key.Goals as goal
 
 pub returns : goal.returns

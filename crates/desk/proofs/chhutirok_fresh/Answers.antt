@@ -8,8 +8,8 @@ use Rattle.desk.proofs.chhutirok_fresh.Goals as goal
 pub returns-then-state-eq702 : goal.returns-then-state-eq702
 unfolding fresh_call_number fresh_state
 returns-then-state-eq702 c =
-    rw (eq-eqb _ _ c.if-state-eq702.true, c.number_of_lem.ensures, c.save.ensures, c.fresh-m.ensures) (refl, refl)
+    rw (eq-eqb _ _ c.if-state-eq702.true, c.number_of.ensures, c.save.ensures, c.fresh-m.ensures) (record { value = refl; state_after = refl })
 
 pub returns-else-state-eq702 : goal.returns-else-state-eq702
 unfolding fresh_call_number fresh_state
-returns-else-state-eq702 c = rw (ne_eqb _ _ c.if-state-eq702.false) (refl, refl)
+returns-else-state-eq702 c = rw (ne_eqb _ _ c.if-state-eq702.false) (record { value = refl; state_after = refl })

@@ -1,5 +1,5 @@
 -- The loop's invariant: the first j words are those of the block.
-use Rattle.std.proofs.Common.{◌≡◌, ◌-◌, ◌<◌, ◌≤◌, length, take, sym, ◌∙◌, arith, take_all, rules}
+use Rattle.std.proofs.Common.{◌<◌, sym, ◌∙◌, arith, take_all, rules}
 use Rattle.digest.specs.Sha256.{pad, words, block}
 use Rattle.digest.proofs.FillLaws.{take_more, take_done}
 use Rattle.digest.proofs.PaddingLaws.{block_long, block_at}

@@ -1,5 +1,5 @@
 -- A byte of the message, the byte after it, or one of the zeros: what stands there in the padded message.
-use Rattle.std.proofs.Common.{length, arith, rules}
+use Rattle.std.proofs.Common.{length, arith}
 use Rattle.digest.proofs.PaddingLaws.{end_is, pad_in, pad_one, pad_zero}
 use Rattle.digest.proofs.byte_at.Goals as goal
 

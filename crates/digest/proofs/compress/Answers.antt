@@ -1,5 +1,4 @@
 -- The schedule, the rounds over it with the constants, and the sum.
-use Rattle.std.proofs.Common.{rules}
 use Rattle.digest.specs.Sha256.{K}
 use Rattle.digest.proofs.DigestLaws.{compress_law}
 use Rattle.digest.proofs.compress.Goals as goal

@@ -1,7 +1,6 @@
 -- The loop's invariant: the value is the one after i blocks.
-use Rattle.std.proofs.Common.{◌≡◌, ◌-◌, ◌≤◌, arith, rules}
+use Rattle.std.proofs.Common.{◌≡◌, ◌-◌, ◌≤◌}
 use Rattle.digest.specs.Sha256.{pad, words, hash}
-use Rattle.digest.proofs.DigestLaws.{hash_more, hash_done}
 use Rattle.digest.proofs.digest.Given as goal
 
 abbrev pub invariant-loop-i : goal.invariant-loop-i

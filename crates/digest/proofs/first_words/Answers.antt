@@ -1,5 +1,5 @@
 -- The loop's invariant: the first t words are those of the block.
-use Rattle.std.proofs.Common.{◌≡◌, ◌-◌, ◌≤◌, length, take, refl, arith, rules}
+use Rattle.std.proofs.Common.{refl, arith, rules}
 use Rattle.digest.proofs.FillLaws.{take_more, take_done}
 use Rattle.digest.proofs.first_words.Goals as goal
 

@@ -1,5 +1,4 @@
 -- The sums in the order of the formula.
-use Rattle.std.proofs.Common.{rules}
 use Rattle.digest.proofs.next.Goals as goal
 
 pub returns : goal.returns

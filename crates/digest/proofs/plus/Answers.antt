@@ -1,5 +1,4 @@
 -- The eight sums.
-use Rattle.std.proofs.Common.{rules}
 use Rattle.digest.specs.Sha256.{plus}
 use Rattle.digest.proofs.plus.Goals as goal
 

@@ -1,5 +1,5 @@
 -- The four stores, one behind the other.
-use Rattle.std.proofs.Common.{◌/◌, ◌%◌, ◌^◌, arith, rules}
+use Rattle.std.proofs.Common.{◌/◌, ◌%◌, ◌^◌, arith}
 use Rattle.digest.proofs.OutputLaws.{put_law}
 use Rattle.digest.proofs.put.Goals as goal
 

@@ -1,5 +1,4 @@
 -- The sums in the order of the formulas for T₁ and T₂.
-use Rattle.std.proofs.Common.{rules}
 use Rattle.digest.specs.Sha256.{round}
 use Rattle.digest.proofs.round.Goals as goal
 

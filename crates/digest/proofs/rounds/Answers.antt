@@ -1,6 +1,5 @@
 -- The loop's invariant: the rounds from t on, on the words as they are, give what all rounds give on the words at the start.
-use Rattle.std.proofs.Common.{◌≡◌, ◌-◌, ◌%◌, ◌≤◌, drop, arith, rules}
-use Rattle.digest.specs.Sha256.{rounds}
+use Rattle.std.proofs.Common.{arith}
 use Rattle.digest.proofs.RoundLaws.{rounds_more, rounds_done}
 use Rattle.digest.proofs.rounds.Goals as goal
 

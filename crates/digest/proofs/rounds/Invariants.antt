@@ -1,7 +1,6 @@
 -- The loop's invariant: the rounds from t on, on the words as they are, give what all rounds give on the words at the start.
-use Rattle.std.proofs.Common.{◌≡◌, ◌-◌, ◌%◌, ◌≤◌, drop, arith, rules}
+use Rattle.std.proofs.Common.{◌≡◌, ◌-◌, ◌%◌, ◌≤◌, drop}
 use Rattle.digest.specs.Sha256.{rounds}
-use Rattle.digest.proofs.RoundLaws.{rounds_more, rounds_done}
 use Rattle.digest.proofs.rounds.Given as goal
 
 abbrev pub invariant-loop-t : goal.invariant-loop-t

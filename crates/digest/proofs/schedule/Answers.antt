@@ -1,5 +1,5 @@
 -- The loop's invariant: the first t words are those of the schedule.
-use Rattle.std.proofs.Common.{◌≡◌, ◌-◌, ◌≤◌, length, take, refl, arith, rules}
+use Rattle.std.proofs.Common.{take, refl, arith, rules}
 use Rattle.digest.specs.Sha256.{next, schedule_to}
 use Rattle.digest.proofs.ScheduleLaws.{schedule_more, schedule_done}
 use Rattle.digest.proofs.schedule.Goals as goal

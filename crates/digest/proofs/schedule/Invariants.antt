@@ -1,7 +1,6 @@
 -- The loop's invariant: the first t words are those of the schedule.
-use Rattle.std.proofs.Common.{◌≡◌, ◌-◌, ◌≤◌, length, take, refl, arith, rules}
-use Rattle.digest.specs.Sha256.{next, schedule_to}
-use Rattle.digest.proofs.ScheduleLaws.{schedule_more, schedule_done}
+use Rattle.std.proofs.Common.{◌≡◌, ◌-◌, ◌≤◌, length, take}
+use Rattle.digest.specs.Sha256.{schedule_to}
 use Rattle.digest.proofs.schedule.Given as goal
 
 abbrev pub invariant-loop-t : goal.invariant-loop-t

@@ -1,5 +1,5 @@
 -- A word of the message, the word with its last bytes and 0x80, a word of zeros, or one of the count: what stands there in the padded message.
-use Rattle.std.proofs.Common.{arith, rules}
+use Rattle.std.proofs.Common.{arith}
 use Rattle.digest.proofs.PaddingLaws.{word_in, word_law, word_zero, word_high, word_low}
 use Rattle.digest.proofs.word_at.Goals as goal
 

@@ -1,5 +1,4 @@
 -- Param1 and the key are those of the rule.
-use borrow.Author.Rules.{rules}
 use Rattle.gen_dig.proofs.check_only_key.Goals as goal
 
 pub returns : goal.returns

@@ -1,6 +1,5 @@
 -- A list of four is its four elements.
 use Rattle.gen_dig.proofs.Sent.{four}
-use borrow.Author.Rules.{rules}
 use Rattle.gen_dig.proofs.four_bytes.Goals as goal
 
 pub returns : goal.returns

@@ -1,7 +1,6 @@
 -- Shape and conditions are those of the rule.
 use mathlib.Core.Path.{sym, ◌∙◌}
 use Rattle.rules.specs.GenDig.{gen_dig_spent, gen_dig}
-use borrow.Author.Rules.{rules}
 use Rattle.gen_dig.proofs.gen_dig.Goals as goal
 
 pub gen_dig_key-key-requires : goal.gen_dig_key-key-requires

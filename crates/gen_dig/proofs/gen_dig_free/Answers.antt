@@ -3,7 +3,6 @@ use mathlib.Core.Path.{sym}
 use mathlib.Core.Bool.{and-true}
 use borrow.Author.Tests.{eq-eqb, ne_eqb}
 use Rattle.rules.specs.GenDig.{gen_dig_free}
-use borrow.Author.Rules.{rules}
 use Rattle.gen_dig.proofs.gen_dig_free.Goals as goal
 
 pub returns-then-f-eq2 : goal.returns-then-f-eq2

@@ -2,7 +2,6 @@
 use mathlib.Core.Path.{sym, ◌∙◌}
 use Rattle.rules.specs.GenDig.{gen_dig_header}
 use Rattle.gen_dig.proofs.Sent.{header_4}
-use borrow.Author.Rules.{rules}
 use Rattle.gen_dig.proofs.gen_dig_header.Goals as goal
 
 pub four_bytes-requires : goal.four_bytes-requires

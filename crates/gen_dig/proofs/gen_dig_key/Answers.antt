@@ -1,7 +1,6 @@
 -- Each field is that of the rule.
 use Rattle.rules.specs.GenDig.{gen_dig_shape, gen_dig_key}
 use Rattle.rules.proofs.Tests.{and_left}
-use borrow.Author.Rules.{rules}
 use Rattle.gen_dig.proofs.gen_dig_key.Goals as goal
 
 pub gen_dig_value-requires : goal.gen_dig_value-requires

@@ -1,6 +1,5 @@
 -- The tests are those of the rule.
 use Rattle.rules.specs.GenDig.{gen_dig_shape}
-use borrow.Author.Rules.{rules}
 use Rattle.gen_dig.proofs.gen_dig_shape.Goals as goal
 
 pub returns-then-check_only_key : goal.returns-then-check_only_key

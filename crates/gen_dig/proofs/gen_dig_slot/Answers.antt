@@ -1,5 +1,4 @@
 -- The test is that of the rule.
-use borrow.Author.Rules.{rules}
 use Rattle.gen_dig.proofs.gen_dig_slot.Goals as goal
 
 pub returns-then-key_named : goal.returns-then-key_named

@@ -1,7 +1,6 @@
 -- Bit 1 decides, as in the rule.
 use borrow.Author.Tests.{eq-eqb, ne_eqb}
 use Rattle.rules.specs.Mac.{first_row}
-use borrow.Author.Rules.{rules}
 use Rattle.mac.proofs.first_row.Goals as goal
 
 pub returns-then-f-eq1 : goal.returns-then-f-eq1

@@ -1,7 +1,6 @@
 -- Where the row that is sent is used, it is the bytes in.
 use Rattle.rules.specs.Mac.{mac_digest}
 use Rattle.mac.proofs.Sent.{second_sent}
-use borrow.Author.Rules.{rules}
 use Rattle.mac.proofs.mac_digest.Goals as goal
 
 pub returns : goal.returns

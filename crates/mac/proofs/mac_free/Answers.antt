@@ -1,6 +1,5 @@
 -- The three conditions are those of the rule.
 use Rattle.rules.specs.Mac.{mac_free}
-use borrow.Author.Rules.{rules}
 use Rattle.mac.proofs.mac_free.Goals as goal
 
 pub returns : goal.returns

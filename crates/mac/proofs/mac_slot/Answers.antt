@@ -1,7 +1,6 @@
 -- What is asked of the slot is asked where it is drawn on.
 use mathlib.Core.Path.{sym, ◌∙◌}
 use Rattle.rules.specs.Mac.{mac_slot}
-use borrow.Author.Rules.{rules}
 use Rattle.mac.proofs.mac_slot.Goals as goal
 
 pub returns-then-draws_key : goal.returns-then-draws_key

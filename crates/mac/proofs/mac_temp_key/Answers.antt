@@ -1,7 +1,6 @@
 -- What is asked of TempKey is asked where it is used.
 use mathlib.Core.Path.{sym, ◌∙◌}
 use Rattle.rules.specs.Mac.{mac_temp_key}
-use borrow.Author.Rules.{rules}
 use Rattle.mac.proofs.mac_temp_key.Goals as goal
 
 pub returns-then-uses_temp_key : goal.returns-then-uses_temp_key

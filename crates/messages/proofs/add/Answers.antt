@@ -1,10 +1,10 @@
 -- After i turns the first i bytes are copied behind the first n.
-use Prim.Native.Nat.{◌-◌, ◌≤◌, ◌<◌}
+use Prim.Native.Nat.{◌≤◌, ◌<◌}
 use mathlib.Core.Path.{◌≡◌}
 use native.Mathlib.Omega.{arith}
 use native.Mathlib.Numerals.{add-one}
 use lib.ListN.{length, drop, length-drop}
-use lib.Seq.{paste, paste-zero, paste-suc, take-paste, get_or-drop}
+use lib.Seq.{paste-zero, paste-suc, take-paste, get_or-drop}
 use borrow.Author.Rules.{rules}
 use Rattle.messages.proofs.add.Goals as goal
 

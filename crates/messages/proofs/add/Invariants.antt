@@ -1,11 +1,8 @@
 -- After i turns the first i bytes are copied behind the first n.
-use Prim.Native.Nat.{◌-◌, ◌≤◌, ◌<◌}
+use Prim.Native.Nat.{◌-◌, ◌≤◌}
 use mathlib.Core.Path.{◌≡◌}
-use native.Mathlib.Omega.{arith}
-use native.Mathlib.Numerals.{add-one}
-use lib.ListN.{length, drop, length-drop}
-use lib.Seq.{paste, paste-zero, paste-suc, take-paste, get_or-drop}
-use borrow.Author.Rules.{rules}
+use lib.ListN.{drop}
+use lib.Seq.{paste}
 use Rattle.messages.proofs.add.Given as goal
 
 abbrev pub invariant-loop-i : goal.invariant-loop-i

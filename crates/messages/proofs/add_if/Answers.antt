@@ -1,7 +1,6 @@
 -- Zeros are added where the field is not included.
 use native.Mathlib.Omega.{arith}
 use Rattle.rules.proofs.Rows.{take_zeros}
-use borrow.Author.Rules.{rules}
 use Rattle.messages.proofs.add_if.Goals as goal
 
 pub returns-then-on : goal.returns-then-on

@@ -1,6 +1,5 @@
 -- Each field stands behind those before it.
 use mathlib.Core.Path.{◌∙◌}
-use borrow.Author.Rules.{rules}
 use Rattle.messages.proofs.other_fields.Goals as goal
 
 pub returns : goal.returns

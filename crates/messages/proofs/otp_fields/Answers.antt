@@ -1,6 +1,5 @@
 -- The second field stands behind the first.
 use mathlib.Core.Path.{◌∙◌}
-use borrow.Author.Rules.{rules}
 use Rattle.messages.proofs.otp_fields.Goals as goal
 
 pub returns : goal.returns

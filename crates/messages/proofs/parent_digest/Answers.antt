@@ -1,6 +1,5 @@
 -- The message is the first 39 bytes of the layout.
 use Rattle.rules.specs.Messages.{parent_message}
-use borrow.Author.Rules.{rules}
 use Rattle.messages.proofs.parent_digest.Goals as goal
 
 pub returns : goal.returns

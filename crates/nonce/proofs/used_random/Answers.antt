@@ -1,7 +1,6 @@
 -- The lock decides which of the two is used.
 use mathlib.Core.Path.{sym, ◌∙◌}
 use Rattle.rules.specs.Nonce.{four_times, used_random}
-use borrow.Author.Rules.{rules}
 use Rattle.nonce.proofs.used_random.Goals as goal
 
 pub returns-then-config_locked : goal.returns-then-config_locked

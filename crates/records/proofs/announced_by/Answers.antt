@@ -1,7 +1,6 @@
 -- Each test is the definition's, in the same order.
 use mathlib.Core.Path.{sym, ◌∙◌}
 use Rattle.records.specs.Records.{announced}
-use borrow.Author.Rules.{rules}
 use Rattle.records.proofs.announced_by.Goals as goal
 
 pub returns-then-is_marked : goal.returns-then-is_marked

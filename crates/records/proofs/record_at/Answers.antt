@@ -1,7 +1,6 @@
 -- Offset 0 is tested first.
 use borrow.Author.Tests.{eq-eqb, ne_eqb}
 use Rattle.records.specs.Records.{record_at}
-use borrow.Author.Rules.{rules}
 use Rattle.records.proofs.record_at.Goals as goal
 
 pub returns-then-at-eq0 : goal.returns-then-at-eq0

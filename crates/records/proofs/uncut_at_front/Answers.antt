@@ -1,7 +1,6 @@
 -- The test is the definition's.
 use borrow.Author.Tests.{lt-ltb, le-ltb}
 use Rattle.records.specs.Records.{uncut}
-use borrow.Author.Rules.{rules}
 use Rattle.records.proofs.uncut_at_front.Goals as goal
 
 pub returns-then-rest-length_of : goal.returns-then-rest-length_of

@@ -1,5 +1,4 @@
 -- `replies::answered` meets its contract: the status byte stands in front of 31 zeros.
-use borrow.Author.Rules.{rules}
 use Rattle.replies.proofs.answered.Goals as goal
 
 pub returns : goal.returns

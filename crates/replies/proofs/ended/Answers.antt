@@ -1,5 +1,4 @@
 -- The one field that is stored is TempKey.
-use borrow.Author.Rules.{rules}
 use Rattle.replies.proofs.ended.Goals as goal
 
 pub returns : goal.returns

@@ -1,5 +1,4 @@
 -- The first byte of the zeros becomes the status.
-use borrow.Author.Rules.{rules}
 use Rattle.replies.proofs.said.Goals as goal
 
 pub returns : goal.returns

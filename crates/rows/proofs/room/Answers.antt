@@ -5,7 +5,6 @@ use native.Mathlib.Omega.{arith}
 use borrow.Author.Tests.{le-ltb}
 use Rattle.rules.proofs.Tests.{tests}
 use Rattle.rows.specs.Row.{fitting}
-use borrow.Author.Rules.{rules}
 use Rattle.rows.proofs.room.Goals as goal
 
 pub returns-then-len-at : goal.returns-then-len-at

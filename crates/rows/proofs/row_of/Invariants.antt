@@ -1,12 +1,9 @@
 -- After i turns the first i bytes are copied; as many are copied as there are, up to 32.
 use Prim.Native.Nat.{◌-◌, min, ◌≤◌}
-use mathlib.Core.Path.{◌≡◌, ◌∙◌}
-use native.Mathlib.Omega.{arith}
+use mathlib.Core.Path.{◌≡◌}
 use lib.ListN.{length, drop}
-use lib.Seq.{paste, paste-zero}
+use lib.Seq.{paste}
 use Rattle.rules.specs.Words.{zeros}
-use Rattle.rows.proofs.Row.{fitting_min, row_more, row_copied}
-use borrow.Author.Rules.{rules}
 use Rattle.rows.proofs.row_of.Given as goal
 
 abbrev pub invariant-loop-i : goal.invariant-loop-i

@@ -1,9 +1,8 @@
 -- After i turns the first i bytes are those of the one row XOR the other.
-use Prim.Native.Nat.{◌-◌, ◌≤◌}
 use mathlib.Core.Path.{◌≡◌, refl, ◌∙◌}
 use native.Mathlib.Omega.{arith}
 use lib.ListN.{length}
-use lib.Seq.{paste, paste-zero}
+use lib.Seq.{paste-zero}
 use lib.Bits.{bit_xor}
 use Rattle.rules.specs.Words.{zeros, xor_row}
 use Rattle.rules.proofs.Rows.{zip_more, zip_all}

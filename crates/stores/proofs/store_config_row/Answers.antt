@@ -1,10 +1,8 @@
 -- At each turn the stores left, on what is stored so far, give what all of them give; the end of the zone ends them.
-use Prim.Native.Nat.{◌+◌, ◌-◌, min, ◌≤◌}
-use mathlib.Core.Path.{◌≡◌, sym, ◌∙◌}
+use mathlib.Core.Path.{sym, ◌∙◌}
 use native.Mathlib.Omega.{arith}
 use native.Mathlib.Nat.{add-zero}
-use lib.ListN.{length, drop, length-set}
-use Rattle.rules.specs.Plan.{in_config, store_all, upwards}
+use lib.ListN.{length, length-set}
 use Rattle.rules.proofs.Stores.{config_zone, stored_more, stored_end}
 use Rattle.rows.proofs.Row.{fitting_min}
 use borrow.Author.Rules.{rules}

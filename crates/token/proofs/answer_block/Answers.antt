@@ -25,7 +25,7 @@ slice_bounds-put-end c =
     let answered = c.run_block-r in
     let a = c.args in
     let plan = plan_for a.token.device a.block.now a.random.now in
-    let few = few_for a.token.device a.block.now a.random.now c.requires.1.0 in
+    let few = few_for a.token.device a.block.now a.random.now c.requires.random_length in
     let len : answered.result.len ≡ length plan.answer = ap (λ (r : Reply). r.len) answered.ensures in
     omega (arith, len, few, room)
 
@@ -33,15 +33,15 @@ pub returns-then-is_whole : goal.returns-then-is_whole
 unfolding block_turn
 returns-then-is_whole c =
     let a = c.args in
-    let random32 = c.requires.1.0 in
-    let output35 = c.requires.1.1 in
+    let random32 = c.requires.random_length in
+    let output35 = c.requires.output_fits in
     let plan = plan_for a.token.device a.block.now a.random.now in
     let few = few_for a.token.device a.block.now a.random.now random32 in
     let fit = put_fits a.output.now plan.answer few output35 in
     let whole = sym c.is_whole.ensures ∙ c.if-is_whole.true in
     let put = c.put-length.ensures in
     let end = end_answered a.token (answering (apply plan a.token.device) a.token.power plan.answer) a.random.now a.output.now plan.answer (output35, random32) refl in
-    rw (c.requires.0, whole, put.0, put.1, sub-zero, c.run_block-r.ensures, take-append_seam plan.answer, fit.0, fit.1) end
+    rw (c.requires.awake, whole, put.value, put.out_after, sub-zero, c.run_block-r.ensures, take-append_seam plan.answer, fit.0, fit.1) end
 
 pub returns-else-is_whole : goal.returns-else-is_whole
 unfolding block_turn
@@ -49,5 +49,5 @@ returns-else-is_whole c =
     let a = c.args in
     let damaged = sym c.is_whole.ensures ∙ c.if-is_whole.false in
     let put = c.put_status-length.ensures in
-    rw (c.requires.0, damaged, put.0, put.1)
-    (end_answered a.token (answering a.token.device a.token.power (0xFF ∷ [])) a.random.now a.output.now (0xFF ∷ []) (c.requires.1.1, c.requires.1.0) refl)
+    rw (c.requires.awake, damaged, put.value, put.output_after)
+    (end_answered a.token (answering a.token.device a.token.power (0xFF ∷ [])) a.random.now a.output.now (0xFF ∷ []) (c.requires.output_fits, c.requires.random_length) refl)

@@ -12,4 +12,4 @@ returns c =
     let put = c.put.ensures in
     let status = c.status_byte in
     let fit = put_fits c.args.output.now (status.result ∷ []) (lit≤ tt) (omega arith) in
-    record { value = put.0 ∙ fit.0; output_after = put.1 ∙ fit.1 ∙ rw status.ensures }
+    record { value = put.value ∙ fit.0; output_after = put.out_after ∙ fit.1 ∙ rw status.ensures }

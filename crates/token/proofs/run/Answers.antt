@@ -43,11 +43,11 @@ returns-in-32 c = rw c.in-32.is c.update_extra.ensures
 
 pub returns-in-40 : goal.returns-in-40
 unfolding command_of
-returns-in-40 c = rw c.in-40.is0 c.check_mac.ensures
+returns-in-40 c = rw c.in-40.is c.check_mac.ensures
 
 pub returns-in-48 : goal.returns-in-48
 unfolding command_of
-returns-in-48 c = rw c.in-48.is1 c.dev_rev.ensures
+returns-in-48 c = rw c.in-48.is c.dev_rev.ensures
 
 pub returns-in_default : goal.returns-in_default
 unfolding command_of

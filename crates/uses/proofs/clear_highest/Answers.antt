@@ -2,7 +2,6 @@
 use native.Mathlib.Nat.{zero-sub}
 use Rattle.rules.specs.Uses.{clear_highest}
 use Rattle.rules.proofs.Uses.{highest}
-use borrow.Author.Rules.{rules}
 use Rattle.uses.proofs.clear_highest.Goals as goal
 
 pub returns-then-b-eq0 : goal.returns-then-b-eq0

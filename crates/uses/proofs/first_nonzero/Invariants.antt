@@ -1,11 +1,7 @@
 -- At each turn the first that is not zero among the bytes left is the first of all.
 use Prim.Native.Nat.{◌-◌, ◌≤◌}
-use mathlib.Core.Path.{◌≡◌, refl}
-use native.Mathlib.Omega.{arith}
-use borrow.Author.Tests.{eq-eqb, ne_eqb}
+use mathlib.Core.Path.{◌≡◌}
 use Rattle.rules.specs.Uses.{first_nonzero}
-use Rattle.rules.proofs.Uses.{first_step}
-use borrow.Author.Rules.{rules}
 use Rattle.uses.proofs.first_nonzero.Given as goal
 
 abbrev pub invariant-loop-i : goal.invariant-loop-i

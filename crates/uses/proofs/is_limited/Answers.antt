@@ -1,7 +1,6 @@
 -- The two tests of the slot's number are those of the rule.
 use borrow.Author.Tests.{lt-ltb, le-ltb, eq-eqb, ne_eqb}
 use Rattle.rules.specs.Uses.{limited}
-use borrow.Author.Rules.{rules}
 use Rattle.uses.proofs.is_limited.Goals as goal
 
 pub returns-then-i-lt8 : goal.returns-then-i-lt8

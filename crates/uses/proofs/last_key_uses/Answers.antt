@@ -1,13 +1,12 @@
 -- At each turn the sum and the ones of the bytes left are the ones of all; a byte has at most eight.
-use Prim.Native.Nat.{◌+◌, ◌-◌, ◌*◌, ◌≤◌}
+use Prim.Native.Nat.{◌-◌}
 use mathlib.Core.Path.{◌≡◌}
 use native.Mathlib.Omega.{arith}
 use native.Mathlib.Nat.{zero-add}
 use mir.Val.{Fits}
 use mir.Syntax.{w8}
-use lib.ListN.{length, get_or, take, drop}
-use lib.Count.{ones, ones-le}
-use Rattle.rules.specs.Words.{bytes}
+use lib.ListN.{length, get_or}
+use lib.Count.{ones-le}
 use Rattle.rules.specs.Uses.{ones_of}
 use Rattle.rules.proofs.Uses.{ones_more}
 use borrow.Author.Rules.{rules}

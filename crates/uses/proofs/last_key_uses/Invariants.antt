@@ -1,16 +1,9 @@
 -- At each turn the sum and the ones of the bytes left are the ones of all; a byte has at most eight.
 use Prim.Native.Nat.{◌+◌, ◌-◌, ◌*◌, ◌≤◌}
 use mathlib.Core.Path.{◌≡◌}
-use native.Mathlib.Omega.{arith}
-use native.Mathlib.Nat.{zero-add}
-use mir.Val.{Fits}
-use mir.Syntax.{w8}
-use lib.ListN.{length, get_or, take, drop}
-use lib.Count.{ones, ones-le}
+use lib.ListN.{take, drop}
 use Rattle.rules.specs.Words.{bytes}
 use Rattle.rules.specs.Uses.{ones_of}
-use Rattle.rules.proofs.Uses.{ones_more}
-use borrow.Author.Rules.{rules}
 use Rattle.uses.proofs.last_key_uses.Given as goal
 
 abbrev pub invariant-loop-i : goal.invariant-loop-i

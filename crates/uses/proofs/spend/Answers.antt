@@ -3,7 +3,6 @@ use mathlib.Core.Path.{sym, ◌∙◌}
 use native.Mathlib.Omega.{arith}
 use Rattle.rules.specs.Uses.{spend}
 use Rattle.rules.proofs.Uses.{use_within}
-use borrow.Author.Rules.{rules}
 use Rattle.uses.proofs.spend.Goals as goal
 
 pub bounds-c-at : goal.bounds-c-at

@@ -1,5 +1,4 @@
 -- A use is spent in the one case, nothing in the other.
-use borrow.Author.Rules.{rules}
 use Rattle.uses.proofs.spend_use.Goals as goal
 
 pub returns-then-drawn : goal.returns-then-drawn

@@ -1,7 +1,6 @@
 -- The test of the slot's number is the rule's.
 use borrow.Author.Tests.{eq-eqb, ne_eqb}
 use Rattle.rules.specs.Uses.{use_at}
-use borrow.Author.Rules.{rules}
 use Rattle.uses.proofs.use_at.Goals as goal
 
 pub returns-then-i-eq15 : goal.returns-then-i-eq15

@@ -1,7 +1,6 @@
 -- A slot that is not limited has a use left; a limited one where a one is left.
 use mathlib.Core.Path.{sym, ◌∙◌}
 use Rattle.rules.specs.Uses.{use_left}
-use borrow.Author.Rules.{rules}
 use Rattle.uses.proofs.use_left.Goals as goal
 
 pub returns-then-is_limited : goal.returns-then-is_limited

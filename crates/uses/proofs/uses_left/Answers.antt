@@ -1,13 +1,6 @@
 -- The test of the slot's number is the rule's; a byte has at most eight ones.
-use Prim.Native.Nat.{◌+◌, ◌*◌, ◌%◌}
-use native.Mathlib.Omega.{arith}
-use mir.Val.{Fits}
-use mir.Syntax.{w8}
-use lib.ListN.{get_or}
-use lib.Count.{ones-le}
 use borrow.Author.Tests.{eq-eqb, ne_eqb}
 use Rattle.rules.specs.Uses.{uses_left}
-use borrow.Author.Rules.{rules}
 use Rattle.uses.proofs.uses_left.Goals as goal
 
 pub returns-then-i-eq15 : goal.returns-then-i-eq15

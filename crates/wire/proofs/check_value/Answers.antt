@@ -1,12 +1,10 @@
 -- `wire::check_value` meets its contract: after i turns the register, in reverse order, is the check value of the first i bytes.
-use Prim.Native.Nat.{◌≤◌, ◌-◌}
 use mathlib.Core.Path.{◌≡◌}
 use native.Mathlib.Omega.{arith}
 use borrow.Author.Rules.{rules}
-use lib.ListN.{length, take, get_or}
+use lib.ListN.{length, get_or}
 use lib.Seq.{take-length}
 use Rattle.wire.specs.Wire.{check_from}
-use Rattle.wire.specs.Reversed.{reversed}
 use Rattle.wire.proofs.Reversed.{twice}
 use Rattle.wire.proofs.Register.{byte_left}
 use Rattle.wire.proofs.Laws.{check_more}

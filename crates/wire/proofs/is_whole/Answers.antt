@@ -1,7 +1,6 @@
 -- `wire::is_whole` meets its contract: each test decides one part of the definition, in the same order.
 use mathlib.Core.Path.{sym}
 use native.Mathlib.Omega.{arith}
-use borrow.Author.Rules.{rules}
 use borrow.Author.Tests.{le-leb, lt-leb, eq-eqb, ne_eqb}
 use lib.Seq.{length-take-le}
 use Rattle.wire.specs.Wire.{check_value, low_first_at, whole}

@@ -1,5 +1,4 @@
 -- `wire::put` meets its contract: its two tests are the definition's, in the same order.
-use borrow.Author.Rules.{rules}
 use borrow.Author.Tests.{le-leb, lt-leb}
 use Rattle.wire.specs.Wire.{fits, put_length, put_output}
 use Rattle.wire.proofs.put.Goals as goal

@@ -1,12 +1,8 @@
 -- `wire::put_fitting` meets its contract: after i turns the first i bytes stand after the first place.
 use Prim.Native.Nat.{◌≤◌, ◌-◌}
-use mathlib.Core.Path.{◌≡◌, refl, sym}
-use native.Mathlib.Numerals.{add-one}
-use native.Mathlib.Omega.{arith}
-use borrow.Author.Rules.{rules}
-use lib.ListN.{length, length-set}
-use lib.Seq.{paste, paste-zero, paste-suc, length-take-le}
-use Rattle.wire.proofs.Frame.{framed}
+use mathlib.Core.Path.{◌≡◌}
+use lib.ListN.{length}
+use lib.Seq.{paste}
 use Rattle.wire.proofs.put_fitting.Given as goal
 
 abbrev pub invariant-loop-i : goal.invariant-loop-i

@@ -4,7 +4,6 @@ use mathlib.Core.Path.{sym}
 use native.Mathlib.Omega.{arith}
 use lib.ListN.{length, drop, length-drop, drop_of_length-le}
 use lib.Seq.{take_all}
-use borrow.Author.Rules.{rules}
 use Rattle.records.proofs.fields.from.Goals as goal
 
 pub returns-then-s-at : goal.returns-then-s-at

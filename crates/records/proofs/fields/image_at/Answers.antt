@@ -1,5 +1,4 @@
 -- What the callees leave is the definition's part.
-use borrow.Author.Rules.{rules}
 use Rattle.records.proofs.fields.image_at.Goals as goal
 
 pub returns : goal.returns

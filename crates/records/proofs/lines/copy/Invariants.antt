@@ -1,10 +1,8 @@
 -- What is left to store at `to`, stored, is all of it stored at the start.
 use Prim.Native.Nat.{◌+◌, ◌≤◌, ◌-◌}
-use mathlib.Core.Path.{◌≡◌, refl, sym, ◌∙◌}
-use native.Mathlib.Omega.{arith}
-use lib.ListN.{length, drop, length-set}
-use lib.Seq.{sets, drop-length}
-use Rattle.records.proofs.Put.{copy_turn}
+use mathlib.Core.Path.{◌≡◌}
+use lib.ListN.{length, drop}
+use lib.Seq.{sets}
 use Rattle.records.proofs.lines.copy.Given as goal
 
 abbrev pub invariant-loop-i : goal.invariant-loop-i

@@ -1,9 +1,8 @@
 -- What is left to store at `to`, stored, is all of it stored at the start.
-use Prim.Native.Nat.{◌+◌, ◌*◌, ◌≤◌, ◌-◌}
 use mathlib.Core.Path.{◌≡◌, refl, sym, ◌∙◌}
 use native.Mathlib.Omega.{arith}
-use lib.ListN.{length, drop, length-set}
-use lib.Seq.{sets, drop-length}
+use lib.ListN.{length, length-set}
+use lib.Seq.{drop-length}
 use Rattle.records.specs.Records.{hex}
 use Rattle.records.proofs.Put.{hex_turn}
 use Rattle.records.proofs.lines.copy_hex.Goals as goal

@@ -1,11 +1,9 @@
 -- What is left to store at `to`, stored, is all of it stored at the start.
 use Prim.Native.Nat.{◌+◌, ◌*◌, ◌≤◌, ◌-◌}
-use mathlib.Core.Path.{◌≡◌, refl, sym, ◌∙◌}
-use native.Mathlib.Omega.{arith}
-use lib.ListN.{length, drop, length-set}
-use lib.Seq.{sets, drop-length}
+use mathlib.Core.Path.{◌≡◌}
+use lib.ListN.{length, drop}
+use lib.Seq.{sets}
 use Rattle.records.specs.Records.{hex}
-use Rattle.records.proofs.Put.{hex_turn}
 use Rattle.records.proofs.lines.copy_hex.Given as goal
 
 abbrev pub invariant-loop-i : goal.invariant-loop-i

@@ -41,5 +41,5 @@ returns c =
     let after : c.copy_hex-end.result ≡ c.copy-next.result + length h = omega arith in
     let tail = chained c.copy-next.new.out h (10 ∷ []) c.copy-next.result c.copy_hex-end.ensures.out_after after refl in
     let line =
-        placed o (a ++ (h ++ ascii "\n")) x.at (omega arith) (chained o a (h ++ ascii "\n") x.at c.copy-next.ensures.out_after c.copy-next.ensures.value tail) (omega arith) in
+    placed o (a ++ (h ++ ascii "\n")) x.at (omega arith) (chained o a (h ++ ascii "\n") x.at c.copy-next.ensures.out_after c.copy-next.ensures.value tail) (omega arith) in
     record { value = line.0; out_after = line.1 }

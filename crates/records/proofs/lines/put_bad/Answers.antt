@@ -1,7 +1,5 @@
 -- The digits that are lent are the offset's, and a line feed.
-use native.Mathlib.Omega.{arith}
-use Rattle.records.proofs.Decimal.{zeros_few, printed}
-use borrow.Author.Rules.{rules}
+use Rattle.records.proofs.Decimal.{printed}
 use Rattle.records.proofs.lines.put_bad.Goals as goal
 
 pub returns : goal.returns

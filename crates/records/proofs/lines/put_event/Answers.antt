@@ -1,7 +1,6 @@
 -- The answer is shown where the number is 0, else `none`.
 use mathlib.Core.Path.{sym, ◌∙◌}
 use Rattle.records.specs.Records.{event_line}
-use borrow.Author.Rules.{rules}
 use Rattle.records.proofs.lines.put_event.Goals as goal
 
 pub returns-then-is_answered : goal.returns-then-is_answered

@@ -5,7 +5,6 @@ use mathlib.Core.List.{◌++◌}
 use native.Mathlib.Omega.{arith}
 use lib.ListN.{length, length-append}
 use Rattle.records.proofs.Put.{not_put_text, placed, chained}
-use borrow.Author.Rules.{rules}
 use Rattle.records.proofs.lines.put_text.Goals as goal
 
 pub returns-then-out-at : goal.returns-then-out-at
@@ -34,5 +33,5 @@ returns c =
     let b = x.b.now in
     let n : length (a ++ b) ≡ length a + length b = length-append a b in
     let line =
-        placed o (a ++ b) x.at (omega arith) (chained o a b x.at c.copy-next.ensures.out_after c.copy-next.ensures.value c.copy-end.ensures.out_after) (omega arith) in
+    placed o (a ++ b) x.at (omega arith) (chained o a b x.at c.copy-next.ensures.out_after c.copy-next.ensures.value c.copy-end.ensures.out_after) (omega arith) in
     record { value = line.0; out_after = line.1 }

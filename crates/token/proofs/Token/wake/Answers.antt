@@ -3,16 +3,9 @@ use mathlib.Core.Path.{refl, sym, ◌∙◌}
 use mathlib.Core.List.{◌∷◌, []}
 use Rattle.rules.specs.declared.Power.TheVariants.{Awake}
 use Rattle.rules.specs.Events.{wake_turn, silent, answering}
-use Rattle.token.proofs.Ends.{Right, fitting, end_refused, end_silent, end_answered}
+use Rattle.token.proofs.Ends.{fitting, end_refused, end_silent, end_answered}
 use borrow.Author.Rules.{rules}
 use Rattle.token.proofs.Token.wake.Goals as goal
-
--- behind the first test the buffers are right
-abbrev start : tie.Else1 → tie.Start
-start c = c.before.before.before.before
-
-right : (c : tie.Else1) → Right (start c).args.random.now (start c).args.output.now
-right c = let a = (start c).args in fitting a.random.now a.output.now c.before.buffers-fit.ensures c.if1.false
 
 pub returns-then-not-buffers_fit : goal.returns-then-not-buffers_fit
 returns-then-not-buffers_fit c =
@@ -20,19 +13,23 @@ returns-then-not-buffers_fit c =
     end_refused a.self (wake_turn a.self.device a.self.power) a.random.now a.output.now c.buffers_fit.ensures c.if-not-buffers_fit.true c.refused.ensures
 
 pub put_status-length-requires : goal.put_status-length-requires
-put_status-length-requires c = (right c).0
+put_status-length-requires c =
+    let fits = fitting c.args.random.now c.args.output.now c.buffers_fit.ensures c.if-not-buffers_fit.false in
+    fits.0
 
 pub returns-then-is_awake : goal.returns-then-is_awake
 unfolding wake_turn
 returns-then-is_awake c =
-    let a = (start fits).args in
+    let fits = fitting c.args.random.now c.args.output.now c.buffers_fit.ensures c.if-not-buffers_fit.false in
+    let a = c.args in
     let awake = sym c.is_awake.ensures ∙ c.if-is_awake.true in
-    rw awake (end_silent a.self (silent a.self.device a.self.power) a.random.now a.output.now c.left.ensures (right fits) refl)
+    rw awake (end_silent a.self (silent a.self.device a.self.power) a.random.now a.output.now c.left.ensures fits refl)
 
 pub returns-else-is_awake : goal.returns-else-is_awake
 unfolding wake_turn
 returns-else-is_awake c =
-    let a = (start fits).args in
+    let fits = fitting c.args.random.now c.args.output.now c.buffers_fit.ensures c.if-not-buffers_fit.false in
+    let a = c.args in
     let asleep = sym c.is_awake.ensures ∙ c.if-is_awake.false in
     let put = c.put_status-length.ensures in
-    rw (asleep, put.0, put.1) (end_answered a.self (answering a.self.device Awake (0x11 ∷ [])) a.random.now a.output.now (0x11 ∷ []) (right fits) refl)
+    rw (asleep, put.value, put.output_after) (end_answered a.self (answering a.self.device Awake (0x11 ∷ [])) a.random.now a.output.now (0x11 ∷ []) fits refl)

@@ -1,5 +1,5 @@
 # Reads every file once and tells what a reader would stumble over; `run`, beside this file, says what that is and passes the exceptions.
-# Names are split at blanks, brackets, dots and colons, so that `tie.Need` is two names; an operator `_+_` is used where `+` stands.
+# Names are split at blanks, brackets, dots and colons, so that `goal.returns` is two names; an operator `◌+◌` is used where `+` stands.
 
 function fail(file, line, words) {
     printf "FAIL %s:%d %s\n", file, line, words
@@ -10,25 +10,29 @@ function fail(file, line, words) {
 
 function indent_of(text) { return match(text, /[^ ]/) - 1 }
 
-# the file that a module's path names, where it is ours: Rattle·rows.proofs.Row and, inside its crate, Rattle·rows·proofs.proofs.Row
+# the file that a module's path names, where it is ours: Rattle.rows.proofs.Row
 function file_of(path, crate) {
-    if (!sub(/^Rattle·/, "", path)) return ""
+    if (!sub(/^Rattle[.]/, "", path)) return ""
     crate = path
-    sub(/[.·].*/, "", crate)
+    sub(/[.].*/, "", crate)
     sub(/^[^.]*[.]/, "", path)
     gsub(/[.]/, "/", path)
     return "crates/" crate "/" path ".antt"
 }
 
-# what stands in a text where a name is used: of an operator `_+_` its last word
+# what stands in a text where a name is used: of an operator `◌+◌` its last word
 function shown(name, parts, n) {
-    if (name !~ /^_|_$/) return name
-    n = split(name, parts, "_")
+    if (name !~ /^◌|◌$/) return name
+    n = split(name, parts, "◌")
     return parts[n] == "" ? parts[n - 1] : parts[n]
 }
 
-# notes an import, `x` or `x as y`
+# notes an import, `x` or `x as y`, or `self`, which is the path's last name
 function import(name, path, parts) {
+    if (name == "self") {
+        name = path
+        sub(/.*::/, "", name)
+    }
     split(name, parts, " as ")
     imports++
     import_file[imports] = FILENAME
@@ -120,7 +124,7 @@ code ~ /^(pub )?use .*::/ {
 
 # laws and definitions, beside those of a function's own proof
 kind == "antt" && code ~ /^ *module / { close_blocks(indent_of(code)) }
-kind == "antt" && FILENAME !~ /\/Proof[.]antt$/ && code ~ /^ *((pub|abbrev|unfoldable) )*([^ (]+ : |(record|data|ruleset) )/ && code !~ /^ *let / {
+kind == "antt" && FILENAME !~ /\/(Answers|Invariants)[.]antt$/ && code ~ /^ *((pub|abbrev|unfoldable) )*([^ (]+ : |(record|data|ruleset) )/ && code !~ /^ *let / {
     name = code
     gsub(/^ *((pub|abbrev|unfoldable) )*((record|data|ruleset) )?/, "", name)
     sub(/ .*/, "", name)

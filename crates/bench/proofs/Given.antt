@@ -18,10 +18,10 @@ use Rattle.bench.specs.Bench.{turn_of, outcome_of, in_front}
 
 -- the two promises of a step
 abbrev pub Given : Turn → List ℕ → Outcome → List ℕ → Type 0
-Given t before o out = (o ≡ outcome_of t) × (out ≡ in_front t.answer before)
+Given t before o out = record { value : o ≡ outcome_of t; output_after : out ≡ in_front t.answer before }
 
 event : (s : Token) (t : Turn) (random before : List ℕ) {o : Outcome} {out : List ℕ} → length before ≡ 35 → length random ≡ 32
-    → (o ≡ outcome s t random before) × (out ≡ output_after t random before)
+    → record { value : o ≡ outcome s t random before; output_after : out ≡ output_after t random before }
     → Given t before o out
 unfolding outcome output_after
 event s t random before h k g =
@@ -38,19 +38,24 @@ random_whole input at n e =
 module _ (s : Token) (input : List ℕ) (at : ℕ) (before : List ℕ) (h : length before ≡ 35) {what : Record} {o : Outcome} where
   pub image_given : {image : List ℕ} → what ≡ Image → image ≡ image_at input at → o ≡ unchanged (fresh_of image).token NoAnswer
       → Given (turn_of what s input at) before o before
-  image_given w e g = rw (w, g, e) (refl, refl)
+  image_given w e g = rw (w, g, e) (record { value = refl; output_after = refl })
 
   pub event_given : (it : Record) (random : List ℕ) {out : List ℕ} → length random ≡ 32 → what ≡ it
-      → (o ≡ outcome s (turn_of it s input at) random before) × (out ≡ output_after (turn_of it s input at) random before)
+      → record {
+        value : o ≡ outcome s (turn_of it s input at) random before;
+        output_after : out ≡ output_after (turn_of it s input at) random before;
+      }
       → Given (turn_of what s input at) before o out
   event_given it random k w g = rw w (event s (turn_of it s input at) random before h k g)
 
   pub block_given : (n : ℕ) {block random out : List ℕ} → what ≡ record_at input at → what ≡ Block n
       → block ≡ block_at input at n → random ≡ random_at input at n
-      → (o ≡ outcome s (block_turn s.device s.power block random) random before)
-      × (out ≡ output_after (block_turn s.device s.power block random) random before)
+      → record {
+        value : o ≡ outcome s (block_turn s.device s.power block random) random before;
+        output_after : out ≡ output_after (block_turn s.device s.power block random) random before;
+      }
       → Given (turn_of what s input at) before o out
   block_given n found w e f g = event_given (Block n) (random_at input at n) (random_whole input at n (sym w ∙ found)) w (rw (e, f) at g)
 
   pub bad_given : what ≡ Bad → o ≡ unchanged s NoAnswer → Given (turn_of what s input at) before o before
-  bad_given w g = rw (w, g) (refl, refl)
+  bad_given w g = rw (w, g) (record { value = refl; output_after = refl })

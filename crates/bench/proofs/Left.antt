@@ -65,11 +65,11 @@ at_first input out₀ = record { n = length input; enough = omega arith; count =
 
 module _ {input out₀ : List ℕ} {s : Token} {out : List ℕ} {used at : ℕ} (l : Left input out₀ s out used at) where
   -- nothing is left
-  pub all : length input ≤ at → (used ≡ length (lines input)) × (out ≡ sets out₀ 0 (lines input))
+  pub all : length input ≤ at → record { value : used ≡ length (lines input); out_after : out ≡ sets out₀ 0 (lines input) }
   all h =
       let e = at_end s input at l.n h in
       let c = rw e at l.count in
-      (omega arith, rw e at l.stored)
+      record { value = omega arith; out_after = rw e at l.stored }
 
   -- the line of the record at the offset fits
   pub fits : at < length input → used + length (line_at s input at) ≤ length (lines input)
@@ -79,25 +79,25 @@ module _ {input out₀ : List ℕ} {s : Token} {out : List ℕ} {used at : ℕ} 
 
   module _ {next : Token} {taken end : ℕ} {last : List ℕ} (t : IsTold s input at out used next taken end last) where
     pub told_within : taken ≤ length input - at
-    told_within = rw t.1.0 (record_within input at)
+    told_within = rw t.taken_value (record_within input at)
 
     pub told_length : length last ≡ length out
-    told_length = rw t.1.1.1 (length-sets out used (line_at s input at))
+    told_length = rw t.out_after (length-sets out used (line_at s input at))
 
     -- it is the last
-    pub ended : at < length input → taken ≡ 0 → (end ≡ length (lines input)) × (last ≡ sets out₀ 0 (lines input))
+    pub ended : at < length input → taken ≡ 0 → record { value : end ≡ length (lines input); out_after : last ≡ sets out₀ 0 (lines input) }
     ended h z =
         let e : lines_from l.n s input at ≡ line_at s input at =
-        rw (at_record s input at l.n h l.enough, bad (record_at input at) (sym t.1.0 ∙ z)) (append-nil (line_at s input at)) in
-        (t.1.1.0 ∙ rw e at l.count, t.1.1.1 ∙ rw e at l.stored)
+        rw (at_record s input at l.n h l.enough, bad (record_at input at) (sym t.taken_value ∙ z)) (append-nil (line_at s input at)) in
+        record { value = t.used_value ∙ rw e at l.count; out_after = t.out_after ∙ rw e at l.stored }
 
     -- it is not the last
     pub goes_on : at < length input → (taken ≡ 0 → ⊥) → Left input out₀ next last end (at + taken)
     goes_on h z =
         let rest = lines_from (l.n - 1) (after (turn_at s input at)) input (at + length_of (record_at input at)) in
-        let more : length_of (record_at input at) ≡ 0 → ⊥ = λ e. z (t.1.0 ∙ e) in
+        let more : length_of (record_at input at) ≡ 0 → ⊥ = λ e. z (t.taken_value ∙ e) in
         let e : lines_from l.n s input at ≡ line_at s input at ++ rest = rw (at_record s input at l.n h l.enough, not_bad (record_at input at) more) in
         let c = rw (e, length-append) at l.count in
         let p = rw e at l.stored in
-        rw (t.0, t.1.0, t.1.1.0, t.1.1.1)
+        rw (t.token_value, t.taken_value, t.used_value, t.out_after)
         record { n = l.n - 1; enough = omega (arith, l.enough); count = omega arith; stored = sets_append (line_at s input at) rest out used ∙ p }

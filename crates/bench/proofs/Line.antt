@@ -32,18 +32,29 @@ module _ (s : Token) (input : List ℕ) (at : ℕ) where
   -- the four promises of `tell`
   abbrev pub IsTold : List ℕ → ℕ → Token → ℕ → ℕ → List ℕ → Type 0
   IsTold out used next taken end last =
-      (next ≡ after (turn_at s input at))
-      × ((taken ≡ length_of (record_at input at))
-      × ((end ≡ used + length (line_at s input at)) × (last ≡ sets out used (line_at s input at))))
+      record {
+        token_value : next ≡ after (turn_at s input at);
+        taken_value : taken ≡ length_of (record_at input at);
+        used_value : end ≡ used + length (line_at s input at);
+        out_after : last ≡ sets out used (line_at s input at);
+      }
 
   module _ (before out : List ℕ) (used : ℕ) (room : used + length (line_at s input at) ≤ length out) {what : Record} {o : Outcome} {after-step answer last : List ℕ} {taken n : ℕ} where
     pub told : what ≡ record_at input at → taken ≡ length_of what → Given (turn_of what s input at) before o after-step → answer ≡ front_of o.length after-step
-        → (n ≡ put_length out used (line_of what at o.number answer)) × (last ≡ put_output out used (line_of what at o.number answer))
+        → record {
+          value : n ≡ put_length out used (line_of what at o.number answer);
+          out_after : last ≡ put_output out used (line_of what at o.number answer);
+        }
         → IsTold out used o.token taken (used + n) last
     told w k g f l =
-        let a : answer ≡ (turn_of what s input at).answer = f ∙ rw (g.0, g.1) (front_answer (turn_of what s input at).answer _) in
-        let line = line_is w (ap (λ (x : Outcome). x.number) g.0) a in
+        let a : answer ≡ (turn_of what s input at).answer = f ∙ rw (g.value, g.output_after) (front_answer (turn_of what s input at).answer _) in
+        let line = line_is w (ap (λ (x : Outcome). x.number) g.value) a in
         let p = placed out (line_at s input at) used room refl refl in
         let m = rw line at l in
-        let long : n ≡ used + length (line_at s input at) - used = m.0 ∙ sym p.0 in
-        (ap (λ (x : Outcome). x.token) g.0 ∙ rw w, (k ∙ ap length_of w, (omega arith, m.1 ∙ sym p.1)))
+        let long : n ≡ used + length (line_at s input at) - used = m.value ∙ sym p.0 in
+        record {
+          token_value = ap (λ (x : Outcome). x.token) g.value ∙ rw w;
+          taken_value = k ∙ ap length_of w;
+          used_value = omega arith;
+          out_after = m.out_after ∙ sym p.1;
+        }

@@ -21,14 +21,14 @@ unfolding printed
 printed-lines input h = rw (le-leb (length input) 65536 h)
 
 put-long : (input out : List ℕ) {n : ℕ} {last : List ℕ} → 65536 < length input → length (printed input) ≤ length out
-    → (n ≡ put_length out 0 too_long) × (last ≡ put_output out 0 too_long)
-    → (n ≡ length (printed input)) × (last ≡ sets out 0 (printed input))
+    → record { value : n ≡ put_length out 0 too_long; out_after : last ≡ put_output out 0 too_long }
+    → record { value : n ≡ length (printed input); out_after : last ≡ sets out 0 (printed input) }
 put-long input out h room g =
     let e = printed-long input h in
     let p = placed out (printed input) 0 (omega arith) refl refl in
     let g' = rw (← e) at g in
-    let long = g'.0 ∙ sym p.0 in
-    (omega arith, g'.1 ∙ sym p.1)
+    let long = g'.value ∙ sym p.0 in
+    record { value = omega arith; out_after = g'.out_after ∙ sym p.1 }
 
 pub returns-then-input-gt65536 : goal.returns-then-input-gt65536
 returns-then-input-gt65536 c =

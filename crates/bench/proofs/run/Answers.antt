@@ -6,9 +6,6 @@ use lib.ListN.{length}
 use Rattle.bench.proofs.Left.{Left, at_first, all, fits, told_within, told_length, ended, goes_on}
 use Rattle.bench.proofs.run.Goals as goal
 
-pub fresh-made-requires : goal.fresh-made-requires
-fresh-made-requires c = tt
-
 pub loop-at-init : goal.loop-at-init
 loop-at-init c =
     let x = c.args in
@@ -17,7 +14,7 @@ loop-at-init c =
 pub tell-told-requires : goal.tell-told-requires
 tell-told-requires c =
     let room = fits c.loop-at.invariant.2 (omega arith) in
-    (c.requires.0, (omega arith, omega arith))
+    record { input_fits = c.requires.input_fits; at_within = omega arith; line_fits = omega arith }
 
 pub shape_of-out-then-taken-eq0 : goal.shape_of-out-then-taken-eq0
 shape_of-out-then-taken-eq0 c = told_length c.loop-at.invariant.2 c.tell-told.ensures ∙ c.loop-at.invariant.1

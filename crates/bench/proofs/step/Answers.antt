@@ -9,30 +9,29 @@ use Rattle.bench.proofs.step.Goals as goal
 pub returns-in-Image : goal.returns-in-Image
 returns-in-Image c =
     let x = c.args in
-    image_given x.token x.input.now x.at x.output.now c.requires.1 c.enum_told-1.given.1 c.image_at.ensures c.image.ensures
+    image_given x.token x.input.now x.at x.output.now c.requires.output_length c.in-Image.is c.image_at.ensures c.image.ensures
 
 pub returns-in-Wake : goal.returns-in-Wake
 returns-in-Wake c =
     let x = c.args in
-    event_given x.token x.input.now x.at x.output.now c.requires.1 Wake (zeros 32) refl c.enum_told-in-Wake-1.given.1 c.wake.ensures
+    event_given x.token x.input.now x.at x.output.now c.requires.output_length Wake (zeros 32) refl c.in-Wake.is c.wake.ensures
 
 pub returns-in-Idle : goal.returns-in-Idle
 returns-in-Idle c =
     let x = c.args in
-    event_given x.token x.input.now x.at x.output.now c.requires.1 Idle (zeros 32) refl c.enum_told-in-Idle-1.given.1 c.idle.ensures
+    event_given x.token x.input.now x.at x.output.now c.requires.output_length Idle (zeros 32) refl c.in-Idle.is c.idle.ensures
 
 pub returns-in-Sleep : goal.returns-in-Sleep
 returns-in-Sleep c =
     let x = c.args in
-    event_given x.token x.input.now x.at x.output.now c.requires.1 Sleep (zeros 32) refl c.enum_told-in-Sleep-1.given.1 c.sleep.ensures
+    event_given x.token x.input.now x.at x.output.now c.requires.output_length Sleep (zeros 32) refl c.in-Sleep.is c.sleep.ensures
 
 pub returns-in-Block : goal.returns-in-Block
 returns-in-Block c =
     let x = c.args in
-    let it = c.what-1 in
-    block_given x.token x.input.now x.at x.output.now c.requires.1 it.given.0.0 c.requires.0 it.given.1 c.block_at.ensures c.random_at.ensures c.block.ensures
+    block_given x.token x.input.now x.at x.output.now c.requires.output_length _ c.requires.what_is c.in-Block.is c.block_at.ensures c.random_at.ensures c.block.ensures
 
 pub returns-in-Bad : goal.returns-in-Bad
 returns-in-Bad c =
     let x = c.args in
-    bad_given x.token x.input.now x.at x.output.now c.requires.1 c.enum_told-in-Bad-1.given.1 refl
+    bad_given x.token x.input.now x.at x.output.now c.requires.output_length c.in-Bad.is refl

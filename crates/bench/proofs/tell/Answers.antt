@@ -10,4 +10,4 @@ use Rattle.bench.proofs.tell.Goals as goal
 pub returns : goal.returns
 returns c =
     let x = c.args in
-    told x.token x.input.now x.at _ x.out.now x.used c.requires.1.1 c.record_at-what.ensures c.length_of-taken.ensures c.step-next.ensures c.front.ensures c.put_line-length.ensures
+    told x.token x.input.now x.at _ x.out.now x.used c.requires.line_fits c.record_at-what.ensures c.length_of-taken.ensures c.step-next.ensures c.front.ensures c.put_line-length.ensures

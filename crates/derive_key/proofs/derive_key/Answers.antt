@@ -1,5 +1,5 @@
 -- Shape, conditions and MAC are those of the rule.
-use Rattle.std.proofs.Common.{sym, ◌∙◌, rules}
+use Rattle.std.proofs.Common.{sym, ◌∙◌}
 use Rattle.rules.specs.DeriveKey.{derived, derive_key}
 use Rattle.derive_key.proofs.derive_key.Goals as goal
 

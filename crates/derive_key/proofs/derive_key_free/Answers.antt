@@ -1,6 +1,5 @@
 -- Each condition is that of the rule.
 use Rattle.rules.specs.DeriveKey.{derive_key_free}
-use Rattle.std.proofs.Common.{rules}
 use Rattle.derive_key.proofs.derive_key_free.Goals as goal
 
 pub returns : goal.returns

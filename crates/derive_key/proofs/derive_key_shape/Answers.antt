@@ -1,5 +1,5 @@
 -- The mask leaves bit 2.
-use Rattle.std.proofs.Common.{arith, rules}
+use Rattle.std.proofs.Common.{arith}
 use Rattle.rules.specs.DeriveKey.{derive_key_shape}
 use Rattle.rules.proofs.Masks.{derive_key_mask}
 use Rattle.derive_key.proofs.derive_key_shape.Goals as goal

@@ -1,5 +1,5 @@
 -- The parent is looked at where it is drawn on.
-use Rattle.std.proofs.Common.{sym, rules}
+use Rattle.std.proofs.Common.{sym}
 use mathlib.Core.Bool.{and-true}
 use Rattle.rules.specs.DeriveKey.{derive_key_slots}
 use Rattle.derive_key.proofs.derive_key_slots.Goals as goal

@@ -1,7 +1,6 @@
 -- The stores are carried out in the order of the rule.
 use Rattle.rules.specs.DeriveKey.{derive_key_stores}
 use Rattle.rules.proofs.Stores.{stored_behind}
-use Rattle.std.proofs.Common.{rules}
 use Rattle.derive_key.proofs.derive_key_stores.Goals as goal
 
 pub returns : goal.returns

@@ -1,5 +1,4 @@
 -- The two tests are those of the rule.
-use Rattle.std.proofs.Common.{rules}
 use Rattle.derive_key.proofs.mac_present.Goals as goal
 
 pub returns : goal.returns

@@ -1,6 +1,5 @@
 -- A MAC is compared where one is asked for.
 use Rattle.rules.specs.DeriveKey.{derive_key_mac}
-use Rattle.std.proofs.Common.{rules}
 use Rattle.derive_key.proofs.mac_right.Goals as goal
 
 pub returns-then-asks_mac : goal.returns-then-asks_mac

@@ -1,6 +1,5 @@
 -- The layout is that of the rule.
 use Rattle.rules.specs.DeriveKey.{new_target}
-use Rattle.std.proofs.Common.{rules}
 use Rattle.derive_key.proofs.new_target.Goals as goal
 
 pub returns : goal.returns

@@ -1,5 +1,4 @@
 -- Either bit draws on the parent.
-use Rattle.std.proofs.Common.{rules}
 use Rattle.derive_key.proofs.parent_drawn.Goals as goal
 
 pub returns : goal.returns

@@ -1,5 +1,4 @@
 -- The parent is the WriteKey of the key.
-use Rattle.std.proofs.Common.{rules}
 use Rattle.derive_key.proofs.parent_of.Goals as goal
 
 pub returns : goal.returns

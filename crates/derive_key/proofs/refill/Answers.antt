@@ -1,5 +1,5 @@
 -- The two bytes are those of the rule.
-use Rattle.std.proofs.Common.{rules, le-ltb, lt-ltb}
+use Rattle.std.proofs.Common.{le-ltb, lt-ltb}
 use Rattle.rules.specs.DeriveKey.{refilled}
 use Rattle.derive_key.proofs.refill.Goals as goal
 

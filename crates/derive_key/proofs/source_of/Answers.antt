@@ -1,6 +1,5 @@
 -- The test is that of the rule.
 use Rattle.rules.specs.DeriveKey.{source}
-use Rattle.std.proofs.Common.{rules}
 use Rattle.derive_key.proofs.source_of.Goals as goal
 
 pub returns-then-from_parent : goal.returns-then-from_parent

@@ -1,5 +1,4 @@
 -- The target is the key.
-use Rattle.std.proofs.Common.{rules}
 use Rattle.derive_key.proofs.target_bit.Goals as goal
 
 pub returns : goal.returns

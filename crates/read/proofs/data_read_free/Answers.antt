@@ -1,7 +1,6 @@
 -- Both locks, and by IsSecret the rest.
 use mathlib.Core.Path.{sym, ◌∙◌}
 use Rattle.rules.specs.Read.{data_read_free}
-use borrow.Author.Rules.{rules}
 use Rattle.read.proofs.data_read_free.Goals as goal
 
 pub returns-then-slot_bit : goal.returns-then-slot_bit

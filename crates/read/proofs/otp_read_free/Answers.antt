@@ -1,6 +1,5 @@
 -- The conditions are those of the rule.
 use Rattle.rules.specs.Read.{otp_read_free}
-use borrow.Author.Rules.{rules}
 use Rattle.read.proofs.otp_read_free.Goals as goal
 
 pub returns : goal.returns

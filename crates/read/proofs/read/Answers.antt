@@ -2,7 +2,6 @@
 use mathlib.Core.Path.{sym, ◌∙◌}
 use Rattle.rules.specs.Read.{read}
 use Rattle.rules.proofs.Shapes.{read_fits}
-use borrow.Author.Rules.{rules}
 use Rattle.read.proofs.read.Goals as goal
 
 pub read_zone-requires : goal.read_zone-requires

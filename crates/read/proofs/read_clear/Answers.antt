@@ -5,7 +5,6 @@ use lib.ListN.{length, take, drop, length-take, length-drop}
 use Rattle.rules.specs.Address.{size, position}
 use Rattle.rows.proofs.Row.{row_there}
 use Rattle.address.proofs.Within.{size_small}
-use borrow.Author.Rules.{rules}
 use Rattle.read.proofs.read_clear.Goals as goal
 
 pub returns : goal.returns

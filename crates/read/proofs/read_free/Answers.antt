@@ -1,7 +1,6 @@
 -- The zone's number decides.
 use borrow.Author.Tests.{ne_eqb}
 use Rattle.rules.specs.Read.{read_free}
-use borrow.Author.Rules.{rules}
 use Rattle.read.proofs.read_free.Goals as goal
 
 pub returns-in-0 : goal.returns-in-0

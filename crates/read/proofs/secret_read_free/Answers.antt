@@ -1,5 +1,4 @@
 -- The conditions are those of the rule.
-use borrow.Author.Rules.{rules}
 use Rattle.read.proofs.secret_read_free.Goals as goal
 
 pub returns : goal.returns

@@ -1,7 +1,6 @@
 -- Shape, then conditions, then the lock byte: what settling the rule asks.
 use mathlib.Core.Path.{sym, ◌∙◌}
 use Rattle.rules.specs.Upkeep.{lock_free, lock}
-use borrow.Author.Rules.{rules}
 use Rattle.upkeep.proofs.lock.Goals as goal
 
 pub returns-then-summary_right : goal.returns-then-summary_right

@@ -1,6 +1,5 @@
 -- Bit 0 picks the lock byte.
 use borrow.Author.Tests.{eq-eqb, ne_eqb}
-use borrow.Author.Rules.{rules}
 use Rattle.upkeep.proofs.locked.Goals as goal
 
 pub returns-then-f-eq1 : goal.returns-then-f-eq1

@@ -4,7 +4,6 @@ use borrow.Author.Tests.{eq-eqb, ne_eqb}
 use Rattle.wire.specs.Wire.{check_value}
 use Rattle.wire.proofs.Laws.{check_append}
 use Rattle.rules.specs.Upkeep.{summary}
-use borrow.Author.Rules.{rules}
 use Rattle.upkeep.proofs.summary_of.Goals as goal
 
 pub returns-then-f-eq1 : goal.returns-then-f-eq1

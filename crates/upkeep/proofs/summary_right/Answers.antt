@@ -1,6 +1,5 @@
 -- Bit 7 skips the summary.
 use borrow.Author.Tests.{eq-eqb, ne_eqb}
-use borrow.Author.Rules.{rules}
 use Rattle.upkeep.proofs.summary_right.Goals as goal
 
 pub returns-then-f-eq1 : goal.returns-then-f-eq1

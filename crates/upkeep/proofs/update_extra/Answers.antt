@@ -1,7 +1,6 @@
 -- Shape, then conditions, then the byte: what settling the rule asks.
 use mathlib.Core.Path.{sym, ◌∙◌}
 use Rattle.rules.specs.Upkeep.{update_extra}
-use borrow.Author.Rules.{rules}
 use Rattle.upkeep.proofs.update_extra.Goals as goal
 
 pub returns-then-update_extra_free : goal.returns-then-update_extra_free

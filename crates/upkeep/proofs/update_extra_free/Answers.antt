@@ -1,7 +1,6 @@
 -- Each branch is a test of the rule.
 use Rattle.rules.specs.Upkeep.{update_extra_free}
 use Rattle.rules.proofs.Tests.{tests}
-use borrow.Author.Rules.{rules}
 use Rattle.upkeep.proofs.update_extra_free.Goals as goal
 
 pub returns-then-c-eq0 : goal.returns-then-c-eq0

@@ -1,6 +1,5 @@
 -- Param1 picks the byte.
 use borrow.Author.Tests.{eq-eqb, ne_eqb}
-use borrow.Author.Rules.{rules}
 use Rattle.upkeep.proofs.updated.Goals as goal
 
 pub returns-then-f-eq1 : goal.returns-then-f-eq1

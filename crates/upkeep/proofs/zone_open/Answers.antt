@@ -2,7 +2,6 @@
 use mathlib.Core.Path.{sym, ◌∙◌}
 use borrow.Author.Tests.{eq-eqb, ne_eqb}
 use Rattle.rules.specs.Upkeep.{zone_open}
-use borrow.Author.Rules.{rules}
 use Rattle.upkeep.proofs.zone_open.Goals as goal
 
 pub returns-then-values_locked : goal.returns-then-values_locked

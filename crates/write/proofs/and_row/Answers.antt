@@ -1,9 +1,8 @@
 -- After i turns the first i bytes are those of the one row AND the other.
-use Prim.Native.Nat.{◌-◌, ◌≤◌}
 use mathlib.Core.Path.{◌≡◌, refl, ◌∙◌}
 use native.Mathlib.Omega.{arith}
 use lib.ListN.{length}
-use lib.Seq.{paste, paste-zero}
+use lib.Seq.{paste-zero}
 use lib.Bits.{bit_and}
 use Rattle.rules.specs.Words.{zeros}
 use Rattle.rules.specs.Write.{and_row}

@@ -1,14 +1,9 @@
 -- After i turns the first i bytes are those of the one row AND the other.
 use Prim.Native.Nat.{◌-◌, ◌≤◌}
-use mathlib.Core.Path.{◌≡◌, refl, ◌∙◌}
-use native.Mathlib.Omega.{arith}
-use lib.ListN.{length}
-use lib.Seq.{paste, paste-zero}
-use lib.Bits.{bit_and}
+use mathlib.Core.Path.{◌≡◌}
+use lib.Seq.{paste}
 use Rattle.rules.specs.Words.{zeros}
 use Rattle.rules.specs.Write.{and_row}
-use Rattle.rules.proofs.Rows.{zip_more, zip_all}
-use borrow.Author.Rules.{rules}
 use Rattle.write.proofs.and_row.Given as goal
 
 abbrev pub invariant-loop-i : goal.invariant-loop-i

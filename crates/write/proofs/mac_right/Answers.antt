@@ -1,5 +1,4 @@
 -- The digest of the 96-byte layout, compared.
-use borrow.Author.Rules.{rules}
 use Rattle.write.proofs.mac_right.Goals as goal
 
 pub returns : goal.returns

@@ -1,6 +1,5 @@
 -- The value's 32 bytes are all there.
 use Rattle.rows.proofs.Row.{row_whole}
-use borrow.Author.Rules.{rules}
 use Rattle.write.proofs.plain_of.Goals as goal
 
 pub returns : goal.returns

@@ -1,7 +1,6 @@
 -- Shape, then conditions, then the effect: what settling the rule asks.
 use mathlib.Core.Path.{sym, ◌∙◌}
 use Rattle.rules.specs.Write.{write}
-use borrow.Author.Rules.{rules}
 use Rattle.write.proofs.write.Goals as goal
 
 pub write_checked-requires : goal.write_checked-requires

@@ -4,7 +4,6 @@ use borrow.Author.Tests.{eqb-true}
 use Rattle.rules.specs.Write.{write_effect}
 use Rattle.rules.proofs.Shapes.{write_fits, size_clear, size_mac}
 use Rattle.write.proofs.Fits.{mac_encrypted}
-use borrow.Author.Rules.{rules}
 use Rattle.write.proofs.write_checked.Goals as goal
 
 pub write_encrypted-requires : goal.write_encrypted-requires

@@ -3,7 +3,6 @@ use mathlib.Core.Path.{sym, ◌∙◌}
 use native.Mathlib.Omega.{arith}
 use Rattle.rules.specs.Write.{write_mac}
 use Rattle.rows.proofs.Row.{row_whole}
-use borrow.Author.Rules.{rules}
 use Rattle.write.proofs.write_encrypted.Goals as goal
 
 pub returns-then-mac_right : goal.returns-then-mac_right

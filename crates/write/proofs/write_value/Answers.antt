@@ -2,7 +2,6 @@
 use borrow.Author.Tests.{ne_eqb}
 use Rattle.rules.specs.Write.{written}
 use Rattle.address.proofs.Within.{otp_within}
-use borrow.Author.Rules.{rules}
 use Rattle.write.proofs.write_value.Goals as goal
 
 pub write_otp-requires : goal.write_otp-requires

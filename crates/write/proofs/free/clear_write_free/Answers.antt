@@ -1,5 +1,4 @@
 -- The bits are those of the rule.
-use borrow.Author.Rules.{rules}
 use Rattle.write.proofs.free.clear_write_free.Goals as goal
 
 pub returns : goal.returns

@@ -2,7 +2,6 @@
 use native.Mathlib.Omega.{arith}
 use Rattle.rules.specs.Write.{config_write_free}
 use Rattle.address.proofs.Within.{size_small, position_small}
-use borrow.Author.Rules.{rules}
 use Rattle.write.proofs.free.config_write_free.Goals as goal
 
 pub overflow_add-end : goal.overflow_add-end

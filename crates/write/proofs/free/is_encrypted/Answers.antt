@@ -2,7 +2,6 @@
 use mathlib.Core.Path.{sym, ◌∙◌}
 use borrow.Author.Tests.{eq-eqb, ne_eqb}
 use Rattle.rules.specs.Write.{encrypted}
-use borrow.Author.Rules.{rules}
 use Rattle.write.proofs.free.is_encrypted.Goals as goal
 
 pub returns-then-zone-eq0 : goal.returns-then-zone-eq0

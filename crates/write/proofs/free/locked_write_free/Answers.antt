@@ -1,7 +1,6 @@
 -- Bit 6 clear, and the zone's own condition.
 use borrow.Author.Tests.{eq-eqb, ne_eqb}
 use Rattle.rules.specs.Write.{locked_write_free}
-use borrow.Author.Rules.{rules}
 use Rattle.write.proofs.free.locked_write_free.Goals as goal
 
 pub returns-then-f-eq1 : goal.returns-then-f-eq1

@@ -1,5 +1,4 @@
 -- The two tests are those of the rule.
-use borrow.Author.Rules.{rules}
 use Rattle.write.proofs.free.mac_present.Goals as goal
 
 pub returns : goal.returns

@@ -1,5 +1,4 @@
 -- WriteConfig bit 14 of the slot.
-use borrow.Author.Rules.{rules}
 use Rattle.write.proofs.free.slot_encrypted.Goals as goal
 
 pub returns : goal.returns

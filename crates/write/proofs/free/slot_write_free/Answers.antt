@@ -1,7 +1,6 @@
 -- Encrypted, TempKey is asked; clear, the other bits.
 use mathlib.Core.Path.{sym, ◌∙◌}
 use Rattle.rules.specs.Write.{slot_write_free}
-use borrow.Author.Rules.{rules}
 use Rattle.write.proofs.free.slot_write_free.Goals as goal
 
 pub returns-then-slot_encrypted : goal.returns-then-slot_encrypted

@@ -3,7 +3,6 @@ use mathlib.Core.Path.{sym}
 use mathlib.Core.Bool.{and-true}
 use borrow.Author.Tests.{eq-eqb, ne_eqb}
 use Rattle.rules.specs.Write.{unlocked_write_free}
-use borrow.Author.Rules.{rules}
 use Rattle.write.proofs.free.unlocked_write_free.Goals as goal
 
 pub returns-then-f-eq1 : goal.returns-then-f-eq1

@@ -2,7 +2,6 @@
 use mathlib.Core.Path.{sym, ◌∙◌}
 use borrow.Author.Tests.{eq-eqb, ne_eqb}
 use Rattle.rules.specs.Write.{write_free}
-use borrow.Author.Rules.{rules}
 use Rattle.write.proofs.free.write_free.Goals as goal
 
 pub returns-then-f-eq0 : goal.returns-then-f-eq0

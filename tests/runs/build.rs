@@ -1,4 +1,4 @@
-//! Links the proved engine: the archive that `rt staticlib desk` writes, or the one that CHHUTIROK_DESK names.
+//! Links the proved engine: the archive that `tools/build desk` writes, or the one that CHHUTIROK_DESK names.
 
 use std::env;
 use std::path::Path;

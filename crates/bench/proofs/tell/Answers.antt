@@ -11,3 +11,9 @@ pub returns : goal.returns
 returns c =
     let x = c.args in
     told x.token x.input.now x.at _ x.out.now x.used c.requires.line_fits c.record_at-what.ensures c.length_of-taken.ensures c.step-next.ensures c.front.ensures c.put_line-length.ensures
+
+pub overflow_add-result : goal.overflow_add-result
+overflow_add-result c =
+    let x = c.args in
+    let within : c.put_line-length.result ≤ length x.out.now - x.used = rw c.put_line-length.ensures.value (put_within _ _ _) in
+    omega (arith, c.well_formed)

@@ -1,5 +1,4 @@
 -- The fresh state is handed on.
-use borrow.Author.Rules.{rules}
 use Rattle.bench.proofs.image.Goals as goal
 
 pub returns : goal.returns

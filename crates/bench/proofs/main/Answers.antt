@@ -1,5 +1,5 @@
 -- What is printed has room, and all of it is written.
-use Rattle.std.proofs.Common.{◌≡◌, ◌≤◌, sym, length, take, arith}
+use Rattle.std.proofs.Common.{◌≡◌, sym, length, take, arith}
 use lib.Seq.{length-take-le}
 use Rattle.bench.specs.Bench.{printed}
 use Rattle.bench.proofs.Room.{printed_short}

@@ -9,7 +9,6 @@ use lib.Seq.{sets}
 use Rattle.records.specs.Records.{too_long, put_length, put_output}
 use Rattle.records.proofs.Put.{placed}
 use Rattle.bench.specs.Bench.{lines, printed}
-use borrow.Author.Rules.{rules}
 use Rattle.bench.proofs.print.Goals as goal
 
 printed-long : (input : List ℕ) → 65536 < length input → printed input ≡ too_long

@@ -1,9 +1,7 @@
 -- Each turn prints one record's line; what is left of the input gets less.
-use Prim.Native.Nat.{◌≤◌, ◌-◌}
-use mathlib.Core.Path.{◌≡◌, refl, ◌∙◌}
+use mathlib.Core.Path.{refl, ◌∙◌}
 use native.Mathlib.Omega.{arith}
-use lib.ListN.{length}
-use Rattle.bench.proofs.Left.{Left, at_first, all, fits, told_within, told_length, ended, goes_on}
+use Rattle.bench.proofs.Left.{at_first, all, fits, told_within, told_length, ended, goes_on}
 use Rattle.bench.proofs.run.Goals as goal
 
 pub loop-at-init : goal.loop-at-init

@@ -1,9 +1,8 @@
 -- Each turn prints one record's line; what is left of the input gets less.
 use Prim.Native.Nat.{◌≤◌, ◌-◌}
-use mathlib.Core.Path.{◌≡◌, refl, ◌∙◌}
-use native.Mathlib.Omega.{arith}
+use mathlib.Core.Path.{◌≡◌}
 use lib.ListN.{length}
-use Rattle.bench.proofs.Left.{Left, at_first, all, fits, told_within, told_length, ended, goes_on}
+use Rattle.bench.proofs.Left.{Left}
 use Rattle.bench.proofs.run.Given as goal
 
 abbrev pub invariant-loop-at : goal.invariant-loop-at

@@ -3,7 +3,6 @@ use Rattle.rules.specs.Words.{zeros}
 use Rattle.records.specs.declared.Record.TheVariants.{Wake, Idle, Sleep}
 use Rattle.bench.proofs.Given.{image_given, event_given, block_given, bad_given}
 use mathlib.Core.Path.{refl}
-use borrow.Author.Rules.{rules}
 use Rattle.bench.proofs.step.Goals as goal
 
 pub returns-in-Image : goal.returns-in-Image

@@ -4,7 +4,6 @@ use native.Mathlib.Omega.{arith}
 use lib.ListN.{length}
 use Rattle.records.proofs.Within.{put_within}
 use Rattle.bench.proofs.Line.{told}
-use borrow.Author.Rules.{rules}
 use Rattle.bench.proofs.tell.Goals as goal
 
 pub returns : goal.returns

@@ -2,7 +2,6 @@
 use mathlib.Core.Path.{refl}
 use borrow.Author.Tests.{eq-eqb, ne_eqb}
 use Rattle.desk.specs.Desk.{fresh_call_number, fresh_state}
-use borrow.Author.Rules.{rules}
 use Rattle.desk.proofs.chhutirok_fresh.Goals as goal
 
 pub returns-then-state-eq702 : goal.returns-then-state-eq702

@@ -1,11 +1,8 @@
 -- `desk::chhutirok_wake` meets its contract: an event over the bytes of a state, or number 40.
-use mathlib.Core.Path.{◌≡◌, sym, ◌∙◌}
-use mathlib.Core.Bool.{true}
+use mathlib.Core.Path.{sym, ◌∙◌}
 use Rattle.rules.specs.Events.{wake}
-use Rattle.desk.specs.Desk.{is_state}
 use Rattle.desk.proofs.Laid.{state_length}
 use Rattle.desk.proofs.Calls.{given, refused}
-use borrow.Author.Rules.{rules}
 use Rattle.desk.proofs.chhutirok_wake.Goals as goal
 
 pub load-t-requires : goal.load-t-requires

@@ -1,7 +1,6 @@
 -- `desk::in_range` meets its contract: the tests are the definition's, in its order.
 use mathlib.Core.Path.{refl}
 use Rattle.desk.specs.Desk.{in_range}
-use borrow.Author.Rules.{rules}
 use Rattle.desk.proofs.in_range.Goals as goal
 
 pub returns : goal.returns

@@ -1,7 +1,6 @@
 -- `desk::is_state` meets its contract: the values are looked at only where there are 702 bytes.
 use borrow.Author.Tests.{eq-eqb, ne_eqb}
 use Rattle.desk.specs.Desk.{is_state}
-use borrow.Author.Rules.{rules}
 use Rattle.desk.proofs.is_state.Goals as goal
 
 pub returns-then-s-eq702 : goal.returns-then-s-eq702

@@ -1,6 +1,5 @@
 -- `desk::last_six` meets its contract: each byte is the one that its function promises.
 use Rattle.desk.specs.Desk.{last_six}
-use borrow.Author.Rules.{rules}
 use Rattle.desk.proofs.last_six.Goals as goal
 
 pub returns : goal.returns

@@ -1,11 +1,8 @@
 -- `desk::lay` meets its contract: what is left to lay over what stands gives the whole.
-use Prim.Native.Nat.{ℕ, ◌+◌, ◌-◌, ◌≤◌}
-use mathlib.Core.Path.{◌≡◌, refl, sym, ap, ◌∙◌}
-use native.Mathlib.Omega.{arith}
-use native.Mathlib.Nat.{add-zero}
-use lib.ListN.{length, drop, length-set}
+use Prim.Native.Nat.{◌+◌, ◌-◌, ◌≤◌}
+use mathlib.Core.Path.{◌≡◌}
+use lib.ListN.{length, drop}
 use lib.Seq.{sets}
-use Rattle.desk.proofs.Laid.{laid_more, laid_end}
 use Rattle.desk.proofs.lay.Given as goal
 
 abbrev pub invariant-loop-i : goal.invariant-loop-i

@@ -6,7 +6,6 @@ use Rattle.rules.specs.Words.{bytes, zeros}
 use Rattle.desk.specs.Desk.{loaded}
 use Rattle.rules.proofs.Rows.{length_part}
 use Rattle.rules.proofs.Stores.{sets_whole}
-use borrow.Author.Rules.{rules}
 use Rattle.desk.proofs.load.Goals as goal
 
 pub returns : goal.returns

@@ -1,6 +1,5 @@
 -- `desk::save` meets its contract: five parts, one after the other, fill the 702 bytes.
 use mathlib.Core.Path.{◌≡◌, ◌∙◌}
-use native.Mathlib.Omega.{arith}
 use lib.ListN.{length}
 use Rattle.desk.specs.Desk.{saved}
 use Rattle.desk.proofs.Laid.{laid}

@@ -4,7 +4,6 @@ use native.Mathlib.Omega.{arith}
 use lib.ListN.{length}
 use Rattle.rows.proofs.Row.{row_whole}
 use Rattle.desk.specs.Desk.{temp_key_in}
-use borrow.Author.Rules.{rules}
 use Rattle.desk.proofs.temp_key_in.Goals as goal
 
 pub returns : goal.returns

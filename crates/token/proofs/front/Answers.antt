@@ -1,7 +1,6 @@
 -- `token::front` meets its contract: each arm is the definition's, by its test.
 use native.Mathlib.Nat.{sub-zero}
 use borrow.Author.Tests.{lt-ltb, le-ltb}
-use borrow.Author.Rules.{rules}
 use Rattle.token.proofs.front.Goals as goal
 
 pub returns-then-output-n : goal.returns-then-output-n

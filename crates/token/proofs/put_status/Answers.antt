@@ -4,7 +4,6 @@ use mathlib.Core.List.{◌∷◌, []}
 use native.Mathlib.Omega.{arith}
 use lib.Dec.{lit≤}
 use Rattle.wire.proofs.Laws.{put_fits}
-use borrow.Author.Rules.{rules}
 use Rattle.token.proofs.put_status.Goals as goal
 
 pub returns : goal.returns

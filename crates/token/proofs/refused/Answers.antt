@@ -1,6 +1,5 @@
 -- `token::refused` meets its contract: the output is asked first.
 use borrow.Author.Tests.{lt-ltb, le-ltb}
-use borrow.Author.Rules.{rules}
 use Rattle.token.proofs.refused.Goals as goal
 
 pub returns-then-output-lt35 : goal.returns-then-output-lt35

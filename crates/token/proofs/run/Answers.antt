@@ -2,7 +2,6 @@
 use mathlib.Core.Path.{◌≡◌}
 use borrow.Author.Tests.{ne_eqb}
 use Rattle.rules.specs.Commands.{command_of, unknown}
-use borrow.Author.Rules.{rules}
 use Rattle.token.proofs.run.Goals as goal
 
 pub returns-in-2 : goal.returns-in-2

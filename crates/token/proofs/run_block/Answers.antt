@@ -6,7 +6,6 @@ use lib.ListN.{length}
 use Rattle.rows.specs.Row.{row}
 use Rattle.rows.proofs.Row.{row_all}
 use Rattle.rules.specs.Events.{plan_for}
-use borrow.Author.Rules.{rules}
 use Rattle.token.proofs.run_block.Goals as goal
 
 pub returns : goal.returns

@@ -2,7 +2,6 @@
 use mathlib.Core.Path.{refl, sym, ◌∙◌}
 use Rattle.rules.specs.Events.{block_turn, silent}
 use Rattle.token.proofs.Ends.{fitting, end_refused, end_silent}
-use borrow.Author.Rules.{rules}
 use Rattle.token.proofs.Token.block.Goals as goal
 
 pub returns-then-not-buffers_fit : goal.returns-then-not-buffers_fit

@@ -3,7 +3,6 @@ use mathlib.Core.Path.{refl, sym, ◌∙◌}
 use Rattle.rules.specs.declared.Power.TheVariants.{Idle}
 use Rattle.rules.specs.Events.{idle_turn, silent}
 use Rattle.token.proofs.Ends.{fitting, end_refused, end_silent}
-use borrow.Author.Rules.{rules}
 use Rattle.token.proofs.Token.idle.Goals as goal
 
 pub returns-then-not-buffers_fit : goal.returns-then-not-buffers_fit

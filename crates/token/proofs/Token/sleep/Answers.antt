@@ -5,7 +5,6 @@ use Rattle.rules.specs.State.{emptied}
 use Rattle.rules.specs.Plan.{with_temp_key}
 use Rattle.rules.specs.Events.{sleep_turn, silent}
 use Rattle.token.proofs.Ends.{fitting, end_refused, end_silent}
-use borrow.Author.Rules.{rules}
 use Rattle.token.proofs.Token.sleep.Goals as goal
 
 pub returns-then-not-buffers_fit : goal.returns-then-not-buffers_fit

@@ -4,7 +4,6 @@ use mathlib.Core.List.{◌∷◌, []}
 use Rattle.rules.specs.declared.Power.TheVariants.{Awake}
 use Rattle.rules.specs.Events.{wake_turn, silent, answering}
 use Rattle.token.proofs.Ends.{fitting, end_refused, end_silent, end_answered}
-use borrow.Author.Rules.{rules}
 use Rattle.token.proofs.Token.wake.Goals as goal
 
 pub returns-then-not-buffers_fit : goal.returns-then-not-buffers_fit

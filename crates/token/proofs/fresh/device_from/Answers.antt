@@ -1,7 +1,6 @@
 -- `token::fresh::device_from` meets its contract: each zone is filled whole from its part of the image.
 use native.Mathlib.Omega.{arith}
 use Rattle.token.proofs.Filled.{device_law}
-use borrow.Author.Rules.{rules}
 use Rattle.token.proofs.fresh.device_from.Goals as goal
 
 pub returns : goal.returns

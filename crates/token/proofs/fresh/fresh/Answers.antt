@@ -1,7 +1,6 @@
 -- `token::fresh::fresh` meets its contract: each arm is the definition's, by its test.
 use borrow.Author.Tests.{eq-eqb, ne_eqb}
 use Rattle.token.specs.Outcome.{fresh_of}
-use borrow.Author.Rules.{rules}
 use Rattle.token.proofs.fresh.fresh.Goals as goal
 
 pub returns-then-image-eq664 : goal.returns-then-image-eq664

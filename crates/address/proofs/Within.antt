@@ -1,10 +1,10 @@
 -- The 4 or 32 bytes that an address names are all there, where it fits.
+use Rattle.std.specs.Prelude.{if◌then◌else◌}
 use Prim.Native.Nat.{ℕ, ◌+◌, ◌*◌, ◌/◌, ◌≤◌, ◌<◌}
 use mathlib.Core.Path.{◌≡◌}
 use mathlib.Core.Bool.{Bool, true, false, ◌&&◌}
 use native.Mathlib.Omega.{arith}
 use borrow.Author.Tests.{eq-eqb, ne_eqb, leb-true}
-use Rattle.wire.specs.Wire.{if◌then◌else◌}
 use Rattle.rules.specs.declared.Fields.{Fields}
 use Rattle.rules.specs.Words.{◌⇒◌, ◌is◌, ◌up_to◌, bit}
 use Rattle.rules.specs.Address.{zone, size, address_fits, position}

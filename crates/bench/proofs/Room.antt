@@ -1,4 +1,5 @@
 -- How long the lines are: a record's line has at most seven times its bytes, and a `bad` line ten.
+use Rattle.std.specs.Prelude.{if◌then◌else◌}
 use Prim.Native.Nat.{ℕ, zero, suc, ◌+◌, ◌-◌, ◌*◌, ◌≤◌}
 use mathlib.Core.Path.{◌≡◌, refl}
 use mathlib.Core.Bool.{Bool, true, false}
@@ -7,7 +8,7 @@ use native.Mathlib.Omega.{arith}
 use borrow.Author.Tests.{leb-true}
 use lib.Dec.{lit≤}
 use lib.ListN.{length, length-append, length-drop}
-use Rattle.wire.specs.Wire.{if◌then◌else◌, whole}
+use Rattle.wire.specs.Wire.{whole}
 use Rattle.wire.proofs.Laws.{length_frame}
 use Rattle.rules.specs.declared.Device.{Device}
 use Rattle.rules.specs.declared.Power.{Power}

@@ -1,6 +1,5 @@
 -- What the bench program prints, by the records and lines of Records.antt.
-use Rattle.std.specs.Prelude.{ℕ, zero, suc, ◌+◌, Bool, true, false, List, [], ◌++◌, length, drop}
-use Rattle.wire.specs.Wire.{if◌then◌else◌}
+use Rattle.std.specs.Prelude.{ℕ, zero, suc, ◌+◌, Bool, true, false, List, [], ◌++◌, length, drop, if◌then◌else◌}
 use Rattle.rules.specs.Words.{◌under◌, ◌up_to◌}
 use Rattle.rules.specs.Events.{Turn, silent, wake_turn, idle_turn, sleep_turn, block_turn, number_for}
 use Rattle.token.specs.declared.Token.{Token}

@@ -1,4 +1,5 @@
 -- What a call gives, by cases on its buffers and its event; blocks that run; what holds over a run of calls.
+use Rattle.std.specs.Prelude.{if◌then◌else◌}
 use Prim.Native.Nat.{ℕ}
 use mathlib.Core.Path.{◌≡◌, refl, ◌∙◌}
 use mathlib.Core.Bool.{Bool, true, false, ◌&&◌, false≢true}
@@ -7,7 +8,7 @@ use native.Mathlib.Omega.{arith}
 use borrow.Author.Tests.{leb-true, le-ltb, ltb-false, le-leb}
 use lib.ListN.{length, drop, length-append}
 use lib.Seq.{take-append_seam}
-use Rattle.wire.specs.Wire.{if◌then◌else◌, frame, whole}
+use Rattle.wire.specs.Wire.{frame, whole}
 use Rattle.wire.proofs.Cases.{if_all, if_either}
 use Rattle.rules.specs.declared.Device.{Device}
 use Rattle.rules.specs.declared.Power.{Power}

@@ -1,12 +1,13 @@
 -- The incident: a sleep empties TempKey, and only an accepted Nonce fills an empty one, since GenDig and a CheckMac that copies need it Valid. So does
 -- every other command that uses it, and is refused.
+use Rattle.std.specs.Prelude.{if◌then◌else◌}
 use Prim.Native.Nat.{ℕ}
 use mathlib.Core.Path.{◌≡◌, refl, sym, ap, ◌∙◌}
 use mathlib.Core.Bool.{Bool, true, false, ◌&&◌, ◌||◌, false≢true}
 use mathlib.Core.Logic.{◌⊎◌, inl, inr, ⊎_elim}
 use mathlib.Core.List.{List, [], ◌∷◌}
 use borrow.Author.Tests.{eqb-true}
-use Rattle.wire.specs.Wire.{if◌then◌else◌, frame}
+use Rattle.wire.specs.Wire.{frame}
 use Rattle.wire.proofs.Cases.{if_all, if_either}
 use Rattle.rules.specs.declared.Device.{Device}
 use Rattle.rules.specs.declared.Fields.{Fields}

@@ -1,11 +1,11 @@
 -- MAC, CheckMac, GenDig and DeriveKey in two devices equal beside a slot: they come to the same where they do not draw on the slot.
+use Rattle.std.specs.Prelude.{if◌then◌else◌}
 use Prim.Native.Nat.{ℕ}
 use mathlib.Core.Path.{◌≡◌, refl, ap}
 use mathlib.Core.Bool.{Bool, true, false, not, ◌&&◌, ◌||◌}
 use mathlib.Core.List.{List, [], ◌∷◌}
 use native.Mathlib.Omega.{arith}
 use borrow.Author.Tests.{eqb-false, ltb-true}
-use Rattle.wire.specs.Wire.{if◌then◌else◌}
 use Rattle.wire.proofs.Cases.{if_all, if_same}
 use Rattle.rules.specs.declared.Device.{Device}
 use Rattle.rules.specs.declared.Fields.{Fields}

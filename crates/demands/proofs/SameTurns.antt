@@ -1,11 +1,12 @@
 -- One event in two devices equal beside a slot that is secret and never read, with both zones locked: what they answer, and what they become.
+use Rattle.std.specs.Prelude.{if◌then◌else◌}
 use Prim.Native.Nat.{ℕ, ◌+◌}
 use mathlib.Core.Path.{◌≡◌, refl, sym, ap, subst, ◌∙◌}
 use mathlib.Core.Bool.{Bool, true, false, ◌&&◌, false≢true}
 use mathlib.Core.List.{List, [], ◌∷◌, ◌++◌}
 use lib.ListN.{length, take, drop}
 use lib.Seq.{drop_at}
-use Rattle.wire.specs.Wire.{if◌then◌else◌, whole, counted, frame}
+use Rattle.wire.specs.Wire.{whole, counted, frame}
 use Rattle.wire.proofs.Laws.{length_frame}
 use Rattle.wire.proofs.Cases.{if_both}
 use Rattle.rules.specs.declared.Device.{Device}

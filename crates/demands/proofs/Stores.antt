@@ -1,5 +1,6 @@
 -- Where commands store: in OTP, in data, in bytes 52 to 85 of the configuration (uses, update counts, UserExtra, Selector), below its byte 84
 -- while it is unlocked, and the 00 of a Lock of a zone that is open. What holds of all such stores holds of every store of a command.
+use Rattle.std.specs.Prelude.{if◌then◌else◌}
 use Prim.Native.Nat.{ℕ, zero, suc, ◌+◌, ◌*◌, ◌%◌, ◌≤◌, ◌<◌}
 use mathlib.Core.Path.{◌≡◌}
 use mathlib.Core.Bool.{Bool, true, false, not, ◌&&◌, false≢true}
@@ -7,7 +8,6 @@ use mathlib.Core.List.{List, [], ◌∷◌, ◌++◌}
 use native.Mathlib.Omega.{arith}
 use borrow.Author.Tests.{leb-true, ltb-true, not-true}
 use lib.ListN.{length}
-use Rattle.wire.specs.Wire.{if◌then◌else◌}
 use Rattle.wire.proofs.Cases.{if_all, if_either}
 use Rattle.rules.specs.declared.Device.{Device}
 use Rattle.rules.specs.declared.Fields.{Fields}

@@ -1,10 +1,10 @@
 -- Which commands use TempKey: with TempKey not Valid their conditions are not met, and no other command comes to anything else for its sake.
+use Rattle.std.specs.Prelude.{if◌then◌else◌}
 use Prim.Native.Nat.{ℕ}
 use mathlib.Core.Path.{◌≡◌, refl, ap}
 use mathlib.Core.Bool.{Bool, true, false, not, ◌&&◌, and-false, false≢true, true≢false}
 use mathlib.Core.List.{List}
 use borrow.Author.Tests.{eqb-true}
-use Rattle.wire.specs.Wire.{if◌then◌else◌}
 use Rattle.wire.proofs.Cases.{if_all, if_same}
 use Rattle.rules.specs.declared.Device.{Device}
 use Rattle.rules.specs.declared.Fields.{Fields}

@@ -1,6 +1,6 @@
 -- Calls on a token, what they give, and runs of calls: what the demands speak of. And tokens and calls for examples.
-use Rattle.std.specs.Prelude.{ℕ, Bool, false, ◌&&◌, List, [], ◌∷◌, ◌++◌, length, set}
-use Rattle.wire.specs.Wire.{if◌then◌else◌, frame, whole, low_first}
+use Rattle.std.specs.Prelude.{ℕ, Bool, false, ◌&&◌, List, [], ◌∷◌, ◌++◌, length, set, if◌then◌else◌}
+use Rattle.wire.specs.Wire.{frame, whole, low_first}
 use Rattle.rules.specs.declared.Slot.{Slot}
 use Rattle.rules.specs.Words.{zeros}
 use Rattle.rules.specs.State.{is_awake}

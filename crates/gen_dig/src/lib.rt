@@ -1,8 +1,7 @@
 // GenDig.
 #![tactic(auto)]
 
-ghost use Rattle.std.specs.Prelude.{◌≡◌, true, ◌&&◌, ◌||◌, length};
-ghost use Rattle.wire.specs.Wire.{if◌then◌else◌};
+ghost use Rattle.std.specs.Prelude.{◌≡◌, true, ◌&&◌, ◌||◌, length, if◌then◌else◌};
 ghost use Rattle.rules.specs.Words.{◌under◌};
 ghost use Rattle.rules.specs.State.{key, slot};
 ghost use Rattle.rules.specs.Plan.{reply, settle};

@@ -1,9 +1,8 @@
 // The messages of the commands, put together field by field, and their digests.
 #![tactic(auto)]
 
-ghost use Rattle.std.specs.Prelude.{◌≡◌, ◌||◌, ◌++◌, ◌+◌, ◌≤◌, length, take, drop};
+ghost use Rattle.std.specs.Prelude.{◌≡◌, ◌||◌, ◌++◌, ◌+◌, ◌≤◌, length, take, drop, if◌then◌else◌};
 ghost use Rattle.digest.specs.Sha256.{sha256};
-ghost use Rattle.wire.specs.Wire.{if◌then◌else◌};
 ghost use Rattle.rules.specs.Words.{bit, bytes, zeros};
 ghost use Rattle.rules.specs.State.{sn0_1, sn2_3, sn4_7, sn8};
 ghost use Rattle.rules.specs.Messages.{header, nonce_message, mac_message, check_mac_message, layout96, parent_message};

@@ -1,6 +1,5 @@
 -- A row: 32 bytes that a function hands on by value.
-use Rattle.std.specs.Prelude.{ℕ, ◌-◌, List, ◌++◌, take, drop}
-use Rattle.wire.specs.Wire.{if◌then◌else◌}
+use Rattle.std.specs.Prelude.{ℕ, ◌-◌, List, ◌++◌, take, drop, if◌then◌else◌}
 use Rattle.rules.specs.Words.{◌under◌, zeros}
 
 -- the n bytes of a list from a position on, as many as there are, filled up with zeros to 32

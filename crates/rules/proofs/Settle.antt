@@ -1,7 +1,7 @@
 -- Through a rule's checks to what it comes to.
+use Rattle.std.specs.Prelude.{if◌then◌else◌}
 use mathlib.Core.Path.{◌≡◌, refl}
 use mathlib.Core.Bool.{true}
-use Rattle.wire.specs.Wire.{if◌then◌else◌}
 use Rattle.wire.proofs.Cases.{if_all, if_both}
 use Rattle.rules.specs.declared.Status.{Status}
 use Rattle.rules.specs.declared.Status.TheVariants.{BadShape, Refused}

@@ -1,4 +1,5 @@
 -- What the shapes of Read and Write say: the address fits, and a value is as long as its address asks, or 32 bytes with a MAC.
+use Rattle.std.specs.Prelude.{if◌then◌else◌}
 use Prim.Native.Nat.{ℕ}
 use mathlib.Core.Path.{◌≡◌, refl}
 use mathlib.Core.Bool.{Bool, true, false, ◌&&◌, ◌||◌}
@@ -6,7 +7,6 @@ use mathlib.Core.List.{List, [], ◌∷◌}
 use native.Mathlib.Omega.{arith}
 use borrow.Author.Tests.{eqb-true}
 use lib.ListN.{length}
-use Rattle.wire.specs.Wire.{if◌then◌else◌}
 use Rattle.rules.specs.declared.Fields.{Fields}
 use Rattle.rules.specs.Words.{◌is◌, bit, only_bits}
 use Rattle.rules.specs.Address.{size, address_fits}

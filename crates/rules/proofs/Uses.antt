@@ -1,4 +1,5 @@
 -- Uses: the highest one bit of a byte, the ones of a row, the first byte that is not zero, and where a use is stored.
+use Rattle.std.specs.Prelude.{if◌then◌else◌}
 use Prim.Native.Nat.{ℕ, zero, suc, ◌+◌, ◌-◌, ◌*◌, ◌^◌, ◌%◌, ◌≤◌, ◌<◌}
 use mathlib.Core.Path.{◌≡◌}
 use mathlib.Core.List.{List}
@@ -9,7 +10,6 @@ use lib.ListN.{length, take, drop}
 use lib.Seq.{drop-cons}
 use lib.Count.{ones, count_leading_zeros, leading_top}
 use Rattle.rules.specs.declared.Slot.{Slot}
-use Rattle.wire.specs.Wire.{if◌then◌else◌}
 use Rattle.rules.specs.Words.{◌is◌, byte}
 use Rattle.rules.specs.State.{index}
 use Rattle.rules.specs.Uses.{ones_of, first_nonzero, use_at}

@@ -1,9 +1,8 @@
 -- What the token covers: the opcodes, and the rule of each command.
-use Rattle.std.specs.Prelude.{ℕ, false, List}
+use Rattle.std.specs.Prelude.{ℕ, false, List, if◌then◌else◌}
 use Rattle.rules.specs.declared.Device.{Device}
 use Rattle.rules.specs.declared.Fields.{Fields}
 use Rattle.rules.specs.declared.Status.TheVariants.{BadShape}
-use Rattle.wire.specs.Wire.{if◌then◌else◌}
 use Rattle.rules.specs.Words.{◌is◌}
 use Rattle.rules.specs.Plan.{Plan, Rule, says, settle}
 use Rattle.rules.specs.Nonce.{nonce, random}

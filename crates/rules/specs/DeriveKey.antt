@@ -1,12 +1,11 @@
 -- DeriveKey.
-use Rattle.std.specs.Prelude.{ℕ, ◌+◌, ◌*◌, ◌%◌, Bool, not, ◌&&◌, ◌||◌, List, [], ◌∷◌, ◌++◌, length}
+use Rattle.std.specs.Prelude.{ℕ, ◌+◌, ◌*◌, ◌%◌, Bool, not, ◌&&◌, ◌||◌, List, [], ◌∷◌, ◌++◌, length, if◌then◌else◌}
 use Rattle.digest.specs.Sha256.{sha256}
 use Rattle.rules.specs.declared.Device.{Device}
 use Rattle.rules.specs.declared.Fields.{Fields}
 use Rattle.rules.specs.declared.Slot.{Slot}
 use Rattle.rules.specs.declared.TempKey.{TempKey}
 use Rattle.rules.specs.declared.Status.TheVariants.{Done}
-use Rattle.wire.specs.Wire.{if◌then◌else◌}
 use Rattle.rules.specs.Words.{◌⇒◌, ◌iff◌, ◌is◌, ◌under◌, byte, equal, only_bits}
 use Rattle.rules.specs.State.{index, key, slot_bytes, both_locked, write_config_bit, write_key, check_only, use_flag_at, update_count_at, emptied, status_byte}
 use Rattle.rules.specs.Plan.{Store, in_config, in_data, upwards, Plan, refused_after, Rule}

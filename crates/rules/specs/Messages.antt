@@ -1,8 +1,8 @@
 -- The messages that commands digest, each a list in the document's order, over a command's fields, the keys, OTP and configuration.
 -- Messages hold Param2 as sent.
-use Rattle.std.specs.Prelude.{ℕ, ◌%◌, ◌||◌, List, [], ◌∷◌, ◌++◌}
+use Rattle.std.specs.Prelude.{ℕ, ◌%◌, ◌||◌, List, [], ◌∷◌, ◌++◌, if◌then◌else◌}
 use Rattle.rules.specs.declared.Fields.{Fields}
-use Rattle.wire.specs.Wire.{if◌then◌else◌, low_first}
+use Rattle.wire.specs.Wire.{low_first}
 use Rattle.rules.specs.Words.{bit, bytes, zeros}
 use Rattle.rules.specs.State.{sn0_1, sn2_3, sn4_7, sn8}
 

@@ -1,8 +1,7 @@
 -- Read.
-use Rattle.std.specs.Prelude.{ℕ, Bool, true, not, ◌&&◌, ◌||◌, List, [], ◌∷◌, length, take, drop}
+use Rattle.std.specs.Prelude.{ℕ, Bool, true, not, ◌&&◌, ◌||◌, List, [], ◌∷◌, length, take, drop, if◌then◌else◌}
 use Rattle.rules.specs.declared.Device.{Device}
 use Rattle.rules.specs.declared.Fields.{Fields}
-use Rattle.wire.specs.Wire.{if◌then◌else◌}
 use Rattle.rules.specs.Words.{◌is◌, ◌under◌, bit, only_bits, xor_row}
 use Rattle.rules.specs.State.{slot_bytes, both_locked, otp_mode, is_secret, encrypt_read, read_key}
 use Rattle.rules.specs.Plan.{Rule, gives}

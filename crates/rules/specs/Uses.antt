@@ -1,9 +1,8 @@
 -- Uses: with LimitedUse, each use clears the highest one bit of UseFlag (slots 0-7), or of the first nonzero LastKeyUse byte
 -- (slot 15); uses left are the ones. Slots 8-14 are unlimited (house).
-use Rattle.std.specs.Prelude.{ℕ, zero, suc, ◌+◌, ◌-◌, ◌^◌, Bool, ◌&&◌, ◌||◌, List, [], ◌∷◌}
+use Rattle.std.specs.Prelude.{ℕ, zero, suc, ◌+◌, ◌-◌, ◌^◌, Bool, ◌&&◌, ◌||◌, List, [], ◌∷◌, if◌then◌else◌}
 use Rattle.std.specs.Int.Count.{ones, count_leading_zeros}
 use Rattle.rules.specs.declared.Slot.{Slot}
-use Rattle.wire.specs.Wire.{if◌then◌else◌}
 use Rattle.rules.specs.Words.{◌⇒◌, ◌is◌, ◌under◌, byte, bytes}
 use Rattle.rules.specs.State.{index, limited_use, use_flag_at}
 use Rattle.rules.specs.Plan.{Store, in_config}

@@ -1,9 +1,8 @@
 -- The small words of the rules: cases, tests of numbers, bits of a field, bytes of a zone.
-use Rattle.std.specs.Prelude.{ℕ, ◌+◌, ◌-◌, ◌*◌, ◌/◌, ◌%◌, ◌^◌, Bool, true, false, ◌&&◌, get_or, take, drop, replicate, ltb, leb, eqb}
+use Rattle.std.specs.Prelude.{ℕ, ◌+◌, ◌-◌, ◌*◌, ◌/◌, ◌%◌, ◌^◌, Bool, true, false, ◌&&◌, get_or, take, drop, replicate, ltb, leb, eqb, if◌then◌else◌}
 use Rattle.std.specs.Bool.{beq}
 use mathlib.Core.List.{List, [], ◌∷◌, zip_with}
 use Rattle.std.specs.Int.Bits.{bit_xor}
-use Rattle.wire.specs.Wire.{if◌then◌else◌}
 
 -- `a ⇒ b`: b is asked only where a holds; `a iff b`: both hold or neither
 infixr 32 ◌⇒◌

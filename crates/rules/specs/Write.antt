@@ -1,11 +1,10 @@
 -- Write.
-use Rattle.std.specs.Prelude.{ℕ, ◌+◌, Bool, false, not, ◌&&◌, ◌||◌, length, take, drop}
+use Rattle.std.specs.Prelude.{ℕ, ◌+◌, Bool, false, not, ◌&&◌, ◌||◌, length, take, drop, if◌then◌else◌}
 use mathlib.Core.List.{List, [], ◌∷◌, zip_with}
 use Rattle.std.specs.Int.Bits.{bit_and}
 use Rattle.digest.specs.Sha256.{sha256}
 use Rattle.rules.specs.declared.Device.{Device}
 use Rattle.rules.specs.declared.Fields.{Fields}
-use Rattle.wire.specs.Wire.{if◌then◌else◌}
 use Rattle.rules.specs.Words.{◌⇒◌, ◌iff◌, ◌is◌, ◌up_to◌, bit, bytes, equal, only_bits, xor_row}
 use Rattle.rules.specs.State.{config_locked, values_locked, otp_mode, is_secret, write_config_bit, write_key}
 use Rattle.rules.specs.Plan.{Store, in_config, in_otp, in_data, upwards, Plan, puts, refused_after, Rule}

@@ -1,9 +1,8 @@
 -- An event gives its number, the new state and the answer's length.
-use Rattle.std.specs.Prelude.{ℕ, Bool, ◌&&◌, List, length}
+use Rattle.std.specs.Prelude.{ℕ, Bool, ◌&&◌, List, length, if◌then◌else◌}
 use Rattle.rules.specs.declared.Number.{Number}
 use Rattle.rules.specs.declared.Number.TheVariants.{ShortOutput, WrongRandom}
 use Rattle.rules.specs.declared.Power.TheVariants.{Asleep}
-use Rattle.wire.specs.Wire.{if◌then◌else◌}
 use Rattle.rules.specs.Words.{◌is◌, ◌under◌, ◌up_to◌}
 use Rattle.rules.specs.State.{fresh_device, fresh_number}
 use Rattle.rules.specs.Events.{Turn, number_for}

@@ -1,8 +1,7 @@
 // Lock, UpdateExtra and DevRev.
 #![tactic(auto)]
 
-ghost use Rattle.std.specs.Prelude.{◌≡◌, ◌||◌, ◌%◌};
-ghost use Rattle.wire.specs.Wire.{if◌then◌else◌};
+ghost use Rattle.std.specs.Prelude.{◌≡◌, ◌||◌, ◌%◌, if◌then◌else◌};
 ghost use Rattle.rules.specs.Words.{◌⇒◌, ◌is◌};
 ghost use Rattle.rules.specs.State.{user_extra_at, selector_at, lock_value_at, lock_config_at};
 ghost use Rattle.rules.specs.Plan.{in_config, store, reply, settle};

@@ -1,8 +1,7 @@
 // Uses: leading zeros find the bit that a use clears, uses left are the count of ones.
 #![tactic(auto)]
 
-ghost use Rattle.std.specs.Prelude.{◌≡◌, []};
-ghost use Rattle.wire.specs.Wire.{if◌then◌else◌};
+ghost use Rattle.std.specs.Prelude.{◌≡◌, [], if◌then◌else◌};
 ghost use Rattle.rules.specs.Plan.{store_all};
 ghost use Rattle.rules.specs.Uses.{limited, ones_of, uses_left, use_left, first_nonzero, use_at, clear_highest, spend};
 ghost use Rattle.rules.specs.Words.{bytes};

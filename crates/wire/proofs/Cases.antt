@@ -1,7 +1,7 @@
 -- Going by cases under `if`.
+use Rattle.std.specs.Prelude.{if◌then◌else◌}
 use mathlib.Core.Path.{◌≡◌, refl}
 use mathlib.Core.Bool.{Bool, true, false}
-use Rattle.wire.specs.Wire.{if◌then◌else◌}
 
 -- what holds of both cases, each where its test passes or fails, holds of either
 pub if_all : {A : Type 0} (P : A → Type 0) (t : Bool) (x y : A) → (t ≡ true → P x) → (t ≡ false → P y) → P (if t then x else y)

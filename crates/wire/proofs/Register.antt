@@ -1,4 +1,5 @@
 -- The register held in reverse order: what bits do to it one by one, and that eight at once do the same.
+use Rattle.std.specs.Prelude.{if◌then◌else◌}
 use Prim.Native.Nat.{ℕ, zero, suc, ◌*◌, ◌/◌, ◌%◌, ◌^◌, ◌<◌}
 use mathlib.Core.Path.{◌≡◌, refl, sym, ap, ◌∙◌}
 use native.Mathlib.Omega.{arith}
@@ -6,7 +7,7 @@ use lib.Arith.{lt-one}
 use lib.Bits.{bit_xor, xor_shr, xor_mod, xor_lt, xor_zero_r}
 use lib.Count.{ones, ones_in}
 use lib.Dec.{eqb}
-use Rattle.wire.specs.Wire.{if◌then◌else◌, bit_in, bits_in}
+use Rattle.wire.specs.Wire.{bit_in, bits_in}
 use Rattle.wire.specs.Reversed.{reversed}
 use Rattle.wire.proofs.Cases.{if_either}
 use Rattle.wire.proofs.Xor.{on_bit, sorted, Additive, times_power, low_sixteen, bit_times, odd_additive, agree}

@@ -1,11 +1,6 @@
 -- Blocks and answers on the wire, as document 01 has them: the check value, the frame of an answer, and when a block is whole.
-use Rattle.std.specs.Prelude.{ℕ, zero, suc, ◌+◌, ◌-◌, ◌*◌, ◌/◌, ◌%◌, List, [], ◌∷◌, ◌++◌, Bool, true, false, ◌&&◌, length, get_or, take, drop, eqb, leb}
+use Rattle.std.specs.Prelude.{ℕ, zero, suc, ◌+◌, ◌-◌, ◌*◌, ◌/◌, ◌%◌, List, [], ◌∷◌, ◌++◌, Bool, true, false, ◌&&◌, length, get_or, take, drop, eqb, leb, if◌then◌else◌}
 use Rattle.std.specs.Int.Bits.{bit_xor}
-
-infix 20 if◌then◌else◌
-abbrev pub if◌then◌else◌ : {A : Type 0} → Bool → A → A → A
-if true then a else b = a
-if false then a else b = b
 
 -- ---- Check value: 16 bits, polynomial 8005, start 0, each byte's lowest bit first, over all bytes before it.
 

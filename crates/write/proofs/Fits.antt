@@ -1,4 +1,5 @@
 -- What the conditions of Write hold: a MAC is present exactly when encrypted; and old AND new in the first bytes of two rows.
+use Rattle.std.specs.Prelude.{if◌then◌else◌}
 use Prim.Native.Nat.{ℕ, ◌+◌, ◌≤◌}
 use mathlib.Core.Path.{◌≡◌, ◌∙◌}
 use mathlib.Core.Bool.{Bool, true, false, not, ◌&&◌}
@@ -8,7 +9,6 @@ use lib.ListN.{length, take, drop}
 use lib.Seq.{take_all}
 use lib.Bits.{bit_and}
 use borrow.Author.Tests.{not-true}
-use Rattle.wire.specs.Wire.{if◌then◌else◌}
 use Rattle.rules.specs.declared.Device.{Device}
 use Rattle.rules.specs.declared.Fields.{Fields}
 use Rattle.rules.specs.Words.{◌iff◌, ◌is◌, ◌up_to◌, bit}

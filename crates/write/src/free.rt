@@ -1,6 +1,5 @@
 // What Write asks before it acts: its shape, and its conditions before the digest.
-ghost use Rattle.std.specs.Prelude.{◌≡◌, not, ◌&&◌, ◌||◌, length};
-ghost use Rattle.wire.specs.Wire.{if◌then◌else◌};
+ghost use Rattle.std.specs.Prelude.{◌≡◌, not, ◌&&◌, ◌||◌, length, if◌then◌else◌};
 ghost use Rattle.rules.specs.Words.{◌iff◌, ◌is◌, bit};
 ghost use Rattle.rules.specs.State.{is_secret, write_config_bit};
 ghost use Rattle.rules.specs.Write.{has_mac, slot_encrypted, write_shape, config_write_free, encrypted, unlocked_write_free, slot_write_free, locked_write_free, write_free};

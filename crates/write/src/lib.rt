@@ -1,9 +1,8 @@
 // Write: what it stores, once its shape and its conditions (free.rt) hold.
 #![tactic(auto)]
 
-ghost use Rattle.std.specs.Prelude.{◌≡◌, true, [], ◌+◌, ◌≤◌, length, take, drop};
+ghost use Rattle.std.specs.Prelude.{◌≡◌, true, [], ◌+◌, ◌≤◌, length, take, drop, if◌then◌else◌};
 ghost use Rattle.digest.specs.Sha256.{sha256};
-ghost use Rattle.wire.specs.Wire.{if◌then◌else◌};
 ghost use Rattle.rules.specs.Words.{bytes, equal};
 ghost use Rattle.rules.specs.Plan.{in_otp, upwards, store_all, puts, refused_after, reply, settle};
 ghost use Rattle.rules.specs.Messages.{header, layout96};

@@ -1,7 +1,7 @@
 -- What a call gives, by cases on its buffers and its event; blocks that run; what holds over a run of calls.
 use Rattle.std.specs.Prelude.{if◌then◌else◌}
 use Prim.Native.Nat.{ℕ}
-use mathlib.Core.Path.{◌≡◌, refl, ◌∙◌}
+use mathlib.Core.Path.{◌≡◌, refl, ap, ◌∙◌}
 use mathlib.Core.Bool.{Bool, true, false, ◌&&◌, false≢true}
 use mathlib.Core.List.{List, [], ◌∷◌, ◌++◌}
 use native.Mathlib.Omega.{arith}
@@ -15,8 +15,8 @@ use Rattle.rules.specs.declared.Power.{Power}
 use Rattle.rules.specs.declared.Number.TheVariants.{ShortOutput, WrongRandom}
 use Rattle.rules.specs.Words.{◌is◌, ◌under◌, ◌up_to◌}
 use Rattle.rules.specs.State.{is_awake, emptied}
-use Rattle.rules.specs.Plan.{with_temp_key, apply}
-use Rattle.rules.specs.Events.{Event, wake, idle, sleep, block, Turn, turn, wake_turn, idle_turn, sleep_turn, block_turn, plan_for, number_for, output_after, front_of}
+use Rattle.rules.specs.Plan.{Plan, with_temp_key, apply}
+use Rattle.rules.specs.Events.{Event, wake, idle, sleep, block, Turn, turn, answering, wake_turn, idle_turn, sleep_turn, block_turn, plan_for, number_for, output_after, front_of}
 use Rattle.rules.proofs.Tests.{and_left, and_right}
 use Rattle.token.specs.declared.Token.{Token}
 use Rattle.token.specs.declared.Outcome.{Outcome}
@@ -72,6 +72,11 @@ pub front_answer : (a rest : List ℕ) → front_of (length a) (a ++ rest) ≡ a
 front_answer a rest =
     rw (le-ltb (length (a ++ rest)) (length a) (omega (arith, length-append a rest))) (take-append_seam a rest)
 
+pub call_answer : (s : Token) (c : Call) → right_buffers c ≡ true → answer_of s c ≡ (turn_of s c).answer
+call_answer s c h =
+    let g = call_fits s c h in
+    rw (g.0, g.1) (front_answer (turn_of s c).answer _)
+
 -- ---- blocks that run
 
 -- a whole block given to a token that is Awake, with buffers that are right, runs
@@ -81,19 +86,22 @@ unfolding runs
 block_runs s c b wide right e a w =
     rw (le-leb 35 (length c.output) (ltb-false (length c.output) 35 wide), right, a, e, w)
 
-runs_fits : (s : Token) (c : Call) → runs s c ≡ true → right_buffers c ≡ true
+pub runs_fits : (s : Token) (c : Call) → runs s c ≡ true → right_buffers c ≡ true
 unfolding runs
 runs_fits s c h = and_left (right_buffers c) (is_awake s.power) (and_left (right_buffers c && is_awake s.power) _ h)
 
-runs_turn : (s : Token) (c : Call) → runs s c ≡ true
-    → (turn_of s c).answer ≡ frame (plan_for s.device (block_of c.event) c.random).answer
+-- what a block that runs comes to, by its plan
+abbrev pub planned : Token → Plan → Turn
+planned s p = answering (apply p s.device) s.power p.answer
+
+pub runs_turn : (s : Token) (c : Call) → runs s c ≡ true → turn_of s c ≡ planned s (plan_for s.device (block_of c.event) c.random)
 unfolding runs block_turn
 runs_turn s c h = go c.event h where
   ready : Bool
   ready = right_buffers c && is_awake s.power
 
   go : (e : Event) → runs s (record { event = e; random = c.random; output = c.output }) ≡ true
-      → (turn s.device s.power e c.random).answer ≡ frame (plan_for s.device (block_of e) c.random).answer
+      → turn s.device s.power e c.random ≡ planned s (plan_for s.device (block_of e) c.random)
   go wake h = absurd (false≢true (and_right ready false h))
   go idle h = absurd (false≢true (and_right ready false h))
   go sleep h = absurd (false≢true (and_right ready false h))
@@ -101,9 +109,7 @@ runs_turn s c h = go c.event h where
 
 -- and is answered by what its rule comes to
 pub runs_answer : (s : Token) (c : Call) → runs s c ≡ true → answer_of s c ≡ frame (plan_for s.device (block_of c.event) c.random).answer
-runs_answer s c h =
-    let g = call_fits s c (runs_fits s c h) in
-    rw (g.0, g.1) (front_answer (turn_of s c).answer _ ∙ runs_turn s c h)
+runs_answer s c h = call_answer s c (runs_fits s c h) ∙ ap (λ (t : Turn). t.answer) (runs_turn s c h)
 
 -- ---- runs of calls
 

@@ -59,7 +59,7 @@ tokens_alike x = record {
 }
 
 -- What is opened to compute an answer, without its digests and with them: to unfold `opening` is to unfold all that its line names.
-opening : Unit {0}
+unfoldable pub opening : Unit {0}
 unfolding
     holding fresh_of outcome output_after runs draws holds is_mac spared plan_for wake_turn sleep_turn block_turn command_of
     whole low_first_at check_value check_from bits_in bit_in frame counted
@@ -74,7 +74,7 @@ unfolding
     write write_shape write_free config_write_free write_effect encrypted written lock lock_shape lock_free zone_open summary
 opening = tt
 
-digesting : Unit {0}
+unfoldable pub digesting : Unit {0}
 unfolding opening sha256 hash words pad compress plus rounds K schedule_to round H0 next
 digesting = tt
 

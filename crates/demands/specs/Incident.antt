@@ -1,6 +1,7 @@
 -- What happened, item 1 of the minutes: the soft copy "kept its challenge through the watchdog's sleep. When the lock manager released a stale
 -- claim, the old holder's claim still checked out". Here no challenge outlives a sleep (which is also the watchdog's expiry): until a Nonce is
--- accepted TempKey is empty, and every command that uses it is refused.
+-- accepted TempKey is empty, and every command that uses it is refused. This supposes right buffers: a sleep refused for its buffers (numbers 1
+-- and 2 precede all else) has not slept, and whoever calls it must look at the number.
 use Rattle.std.specs.Prelude.{ℕ, ◌≡◌, Bool, true, false, ◌&&◌, List, [], ◌∷◌, if◌then◌else◌}
 use Rattle.wire.specs.Wire.{frame}
 use Rattle.rules.specs.declared.Device.{Device}

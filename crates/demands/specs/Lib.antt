@@ -5,4 +5,6 @@ pub mod Demand3
 pub mod Locked
 pub mod Incident
 pub mod Soundings
+pub mod WellFormed
+pub mod Refusals
 pub mod Witnesses

@@ -1,11 +1,12 @@
 -- The desk's C interface, as include/chhutirok.h has it: a token is 702 bytes that the caller keeps.
-use Rattle.std.specs.Prelude.{ℕ, Bool, true, false, ◌&&◌, List, [], ◌∷◌, ◌++◌, length, if◌then◌else◌}
+use Rattle.std.specs.Prelude.{ℕ, Bool, true, false, ◌&&◌, List, [], ◌∷◌, ◌++◌, length, if◌then◌else◌, if◌then◌else◌}
 use Rattle.rules.specs.declared.TempKey.{TempKey}
 use Rattle.rules.specs.declared.Power.{Power}
 use Rattle.rules.specs.declared.Power.TheVariants.{Asleep, Idle, Awake}
 use Rattle.rules.specs.Words.{◌is◌, ◌up_to◌, byte, bytes}
 use Rattle.rules.specs.State.{number_of, slot}
 use Rattle.rules.specs.Events.{Turn, Event, turn, output_after}
+use Rattle.blocks.specs.Blocks.{fits}
 use Rattle.token.specs.declared.Token.{Token}
 use Rattle.token.specs.declared.Outcome.{Outcome}
 use Rattle.token.specs.Outcome.{outcome, fresh_of}
@@ -97,3 +98,13 @@ fresh_call_number image s = if length s is 702 then number_of (fresh_of image).n
 
 unfoldable pub fresh_state : List ℕ → List ℕ → List ℕ
 fresh_state image s = if length s is 702 then saved (fresh_of image).token else s
+
+-- ---- a command framed as a block (crates/blocks/specs/Blocks.antt); 42 where its data does not fit
+
+unfoldable pub frame_number : List ℕ → List ℕ → ℕ
+frame_number input buffer = if fits input buffer then 0 else 42
+
+-- ---- the version of this interface, CHHUTIROK_VERSION
+
+abbrev pub version : ℕ
+version = 1

@@ -1,15 +1,20 @@
-// The desk's interface, which desk_c exports for C (include/chhutirok.h): a token is 702 lent bytes, which each call loads and saves.
+// The desk's interface, which desk_c exports for C (include/chhutirok.h): a token is 702 lent bytes, which
+// each event loads and saves; and a command as a block.
 #![tactic(auto)]
 
 ghost use Rattle.std.specs.Prelude.{◌≡◌, ◌+◌, ◌≤◌, length};
 ghost use Rattle.std.proofs.lemmas.List.Edits.{sets};
 ghost use Rattle.rules.specs.State.{number_of};
 ghost use Rattle.rules.specs.Events.{wake, idle, sleep, block};
+ghost use Rattle.blocks.specs.Blocks.{block_length, buffer_after};
 ghost use Rattle.desk.specs.Desk.{in_range, is_state, flag_byte, power, power_byte, temp_key_in, loaded, last_six, saved};
-ghost use Rattle.desk.specs.Desk.{number, state_after, output_of, answer_length, fresh_call_number, fresh_state};
+ghost use Rattle.desk.specs.Desk.{number, state_after, output_of, answer_length, fresh_call_number, fresh_state, frame_number, version};
 
 use rules::{Device, Power, Slot, TempKey};
 use token::{Outcome, Token};
+
+// CHHUTIROK_VERSION
+const VERSION: u32 = 1;
 
 fn in_range(s: &[u8]) -> bool
     requires { length s.now ≡ 702 }
@@ -241,4 +246,29 @@ pub fn chhutirok_block(
     } else {
         refuse(length)
     }
+}
+
+// A command framed as a block, at the front of the buffer; 42 where its data does not fit.
+pub fn chhutirok_frame(
+    opcode: u8,
+    param1: u8,
+    param2: u16,
+    input: &[u8],
+    buffer: &mut [u8],
+    length: &mut usize,
+) -> u32
+    ensures value { result ≡ frame_number input.now buffer.old }
+    ensures buffer_after { buffer.new ≡ buffer_after opcode param1 param2 input.now buffer.old }
+    ensures length_after { length.new ≡ block_length input.now buffer.old }
+{
+    let n = blocks::put_block(opcode, param1, param2, input, buffer);
+    *length = n;
+    if n == 0 { 42 } else { 0 }
+}
+
+// The number of this interface.
+pub fn chhutirok_version() -> u32
+    ensures { result ≡ version }
+{
+    VERSION
 }

@@ -3,7 +3,8 @@
 
 ghost use Rattle.std.specs.Prelude.{◌≡◌};
 ghost use Rattle.rules.specs.Events.{wake, idle, sleep, block};
-ghost use Rattle.desk.specs.Desk.{number, state_after, output_of, answer_length, fresh_call_number, fresh_state};
+ghost use Rattle.blocks.specs.Blocks.{block_length, buffer_after};
+ghost use Rattle.desk.specs.Desk.{number, state_after, output_of, answer_length, fresh_call_number, fresh_state, frame_number, version};
 
 #[unsafe(no_mangle)]
 pub extern "C" fn chhutirok_fresh(image: &[u8], state: &mut [u8]) -> u32
@@ -72,4 +73,27 @@ pub extern "C" fn chhutirok_block(
     ensures length_after { length.new ≡ answer_length state.old (block sent.now) random.now output.old }
 {
     desk::chhutirok_block(state, sent, random, output, length)
+}
+
+#[unsafe(no_mangle)]
+pub extern "C" fn chhutirok_frame(
+    opcode: u8,
+    param1: u8,
+    param2: u16,
+    input: &[u8],
+    buffer: &mut [u8],
+    length: &mut usize,
+) -> u32
+    ensures value { result ≡ frame_number input.now buffer.old }
+    ensures buffer_after { buffer.new ≡ buffer_after opcode param1 param2 input.now buffer.old }
+    ensures length_after { length.new ≡ block_length input.now buffer.old }
+{
+    desk::chhutirok_frame(opcode, param1, param2, input, buffer, length)
+}
+
+#[unsafe(no_mangle)]
+pub extern "C" fn chhutirok_version() -> u32
+    ensures { result ≡ version }
+{
+    desk::chhutirok_version()
 }

@@ -16,6 +16,12 @@ module _ {K : Type 0} {A R L : K → Type 0} (Pre : (κs : K) → A κs → Type
     pub total : Total
     pub both : (κs : K) (a : A κs) (x y : R κs) (l m : L κs) → Post κs a x l → Post κs a y m → (x ≡ y) × (lent κs l ≡ lent κs m)
 
+  -- the same of the result and of two things that are lent
+  pub record FixedLentTwo {B C : Type 0} (first : (κs : K) → L κs → B) (second : (κs : K) → L κs → C) : Type 0 where
+    pub total : Total
+    pub all : (κs : K) (a : A κs) (x y : R κs) (l m : L κs) → Post κs a x l → Post κs a y m
+        → (x ≡ y) × ((first κs l ≡ first κs m) × (second κs l ≡ second κs m))
+
   -- the same of the result and of three things that are lent
   pub record FixedLents {B C D : Type 0} (first : (κs : K) → L κs → B) (second : (κs : K) → L κs → C) (third : (κs : K) → L κs → D) : Type 0 where
     pub total : Total
@@ -43,6 +49,11 @@ module _ {K : Type 0} {A R L : K → Type 0} where
   pub fixed_lent : {B : Type 0} {lent : (κs : K) → L κs → B} {f : (κs : K) → A κs → R κs} {g : (κs : K) → A κs → B}
       → FixedLent {A = A} (λ κs a. Unit {0}) (λ κs a x l. (x ≡ f κs a) × (lent κs l ≡ g κs a)) lent
   fixed_lent = record { total = λ κs a. tt; both = λ κs a x y l m p q. (one p.0 q.0, one p.1 q.1) }
+
+  pub fixed_lent_two : {B C : Type 0} {first : (κs : K) → L κs → B} {second : (κs : K) → L κs → C}
+      {f : (κs : K) → A κs → R κs} {g : (κs : K) → A κs → B} {h : (κs : K) → A κs → C}
+      → FixedLentTwo {A = A} (λ κs a. Unit {0}) (λ κs a x l. (x ≡ f κs a) × ((first κs l ≡ g κs a) × (second κs l ≡ h κs a))) first second
+  fixed_lent_two = record { total = λ κs a. tt; all = λ κs a x y l m p q. (one p.0 q.0, (one p.1.0 q.1.0, one p.1.1 q.1.1)) }
 
   pub fixed_lents : {B C D : Type 0} {first : (κs : K) → L κs → B} {second : (κs : K) → L κs → C} {third : (κs : K) → L κs → D}
       {f : (κs : K) → A κs → R κs} {g : (κs : K) → A κs → B} {h : (κs : K) → A κs → C} {i : (κs : K) → A κs → D}

@@ -1,6 +1,8 @@
 -- A file for each crate, a theorem for each of its public functions.
 pub mod Fixed
+pub mod Numbers
 pub mod Address
+pub mod Blocks
 pub mod Check_mac
 pub mod Config
 pub mod Derive_key

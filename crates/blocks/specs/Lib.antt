@@ -1,0 +1,2 @@
+-- Blocks that a caller sends.
+pub mod Blocks

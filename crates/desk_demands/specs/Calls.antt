@@ -44,8 +44,7 @@ pub record Carried (s : List ℕ) (cs : List Call) : Type 0 where
   pub output : (c : Call) → call_output (bytes_after s cs) c ≡ output_of (after (loaded s) cs) c
   pub length : (c : Call) → call_length (bytes_after s cs) c ≡ (given (after (loaded s) cs) c).length
 
--- ---- The answer's length, of any bytes: "*length is the answer's length, at the front of the output: 4, 7 or 35 with number 0, else 0."
--- (include/chhutirok.h)
+-- ---- The answer's length, of any bytes: "With number 0 *length is 4, 7 or 35 ..; with every other number *length is 0." (include/chhutirok.h)
 
 pub record Lengths (s : List ℕ) (c : Call) : Type 0 where
   pub answered : call_number s c ≡ 0 → (call_length s c ≡ 4) ⊎ ((call_length s c ≡ 7) ⊎ (call_length s c ≡ 35))

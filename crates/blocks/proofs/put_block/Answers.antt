@@ -1,6 +1,5 @@
 -- `blocks::put_block` meets its contract: its two tests are the definition's, in the same order.
 use mathlib.Core.Path.{refl}
-use borrow.Author.Rules.{rules}
 use borrow.Author.Tests.{le-leb, lt-leb}
 use Rattle.blocks.specs.Blocks.{fits, block_length, buffer_after}
 use Rattle.blocks.proofs.put_block.Goals as goal

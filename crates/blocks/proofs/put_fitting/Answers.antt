@@ -1,9 +1,7 @@
 -- `blocks::put_fitting` meets its contract: after i turns the first i bytes of data stand after five places.
-use Prim.Native.Nat.{◌≤◌, ◌-◌}
 use mathlib.Core.Path.{◌≡◌, refl, sym}
 use native.Mathlib.Numerals.{add-one}
 use native.Mathlib.Omega.{arith}
-use borrow.Author.Rules.{rules}
 use lib.ListN.{length, length-set}
 use lib.Seq.{paste, paste-zero, paste-suc, length-take-le}
 use Rattle.blocks.proofs.Stored.{stored}

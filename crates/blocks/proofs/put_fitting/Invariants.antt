@@ -1,12 +1,8 @@
 -- `blocks::put_fitting` meets its contract: after i turns the first i bytes of data stand after five places.
 use Prim.Native.Nat.{◌≤◌, ◌-◌}
-use mathlib.Core.Path.{◌≡◌, refl, sym}
-use native.Mathlib.Numerals.{add-one}
-use native.Mathlib.Omega.{arith}
-use borrow.Author.Rules.{rules}
-use lib.ListN.{length, length-set}
-use lib.Seq.{paste, paste-zero, paste-suc, length-take-le}
-use Rattle.blocks.proofs.Stored.{stored}
+use mathlib.Core.Path.{◌≡◌}
+use lib.ListN.{length}
+use lib.Seq.{paste}
 use Rattle.blocks.proofs.put_fitting.Given as goal
 
 abbrev pub invariant-loop-i : goal.invariant-loop-i

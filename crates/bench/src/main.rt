@@ -111,13 +111,16 @@ fn run(input: &[u8], out: &mut [u8]) -> usize
     used
 }
 
+// The longest input that is run.
+const LIMIT: usize = 65536;
+
 // What is printed for an input, put at the front of the output; how many bytes it is.
 fn print(input: &[u8], out: &mut [u8]) -> usize
     requires { length (printed input.now) ≤ length out.old }
     ensures value { result ≡ length (printed input.now) }
     ensures out_after { out.new ≡ sets out.old 0 (printed input.now) }
 {
-    if 65536 < input.len() {
+    if LIMIT < input.len() {
         return lines::put_too_long(out, 0);
     }
     run(input, out)

@@ -80,6 +80,7 @@ fn copy_holds(c: [u8; 88], f: Fields) -> bool
 }
 
 // TempKey after a CheckMac: the target where it copies, else empty.
+#[tactic(auto, unfolding(rules::specs::CheckMac::check_mac_key))]
 fn check_mac_key(d: Device, f: Fields, same: bool) -> TempKey
     ensures { result ≡ check_mac_key d f same }
 {

@@ -29,12 +29,15 @@ fn slot_config(c: [u8; 88], k: Slot) -> u16
     (c[at] as u16) + 256 * (c[at + 1] as u16)
 }
 
+// A slot's configuration has so many bits.
+const BITS: u16 = 16;
+
 // Bit n of a slot's SlotConfig; there is none above 15.
 pub fn slot_bit(n: u16, c: [u8; 88], k: Slot) -> bool
     ensures { result ≡ bit n (slot_config c k) }
 {
     let x = slot_config(c, k);
-    if n < 16 { (x >> n) % 2 == 1 } else { false }
+    if n < BITS { (x >> n) % 2 == 1 } else { false }
 }
 
 pub fn write_key(c: [u8; 88], k: Slot) -> Slot

@@ -151,6 +151,7 @@ fn derive_key_stores(d: Device, f: Fields) -> Device
     refill(t, c, k)
 }
 
+#[tactic(auto, unfolding(rules::specs::DeriveKey::derive_key, rules::specs::DeriveKey::derived))]
 pub fn derive_key(d: Device, f: Fields, input: &[u8]) -> Reply
     ensures { result ≡ reply (settle (derive_key d f input.now)) d }
 {

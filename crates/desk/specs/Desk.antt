@@ -1,5 +1,5 @@
 -- The desk's C interface, as include/chhutirok.h has it: a token is 702 bytes that the caller keeps.
-use Rattle.std.specs.Prelude.{ℕ, Bool, true, false, ◌&&◌, List, [], ◌∷◌, ◌++◌, length, if◌then◌else◌, if◌then◌else◌}
+use Rattle.std.specs.Prelude.{ℕ, Bool, true, false, ◌&&◌, List, [], ◌∷◌, ◌++◌, length, if◌then◌else◌}
 use Rattle.rules.specs.declared.TempKey.{TempKey}
 use Rattle.rules.specs.declared.Power.{Power}
 use Rattle.rules.specs.declared.Power.TheVariants.{Asleep, Idle, Awake}

@@ -24,6 +24,7 @@ pub fn draws_key(f: Fields) -> bool
 }
 
 // The first 32 bytes of the message: TempKey or the slot.
+#[tactic(auto, unfolding(rules::specs::Mac::first_row))]
 pub fn first_row(d: Device, f: Fields) -> [u8; 32]
     ensures { result ≡ first_row d f }
 {
@@ -36,6 +37,7 @@ pub fn first_row(d: Device, f: Fields) -> [u8; 32]
 }
 
 // The second 32 bytes: TempKey or what was sent.
+#[tactic(auto, unfolding(rules::specs::Mac::second_row))]
 pub fn second_row(d: Device, f: Fields, sent: [u8; 32]) -> [u8; 32]
     ensures { result ≡ second_row d f sent }
 {

@@ -1,4 +1,4 @@
--- The exported functions of crate `desk`: the result, and the state, the output (or the block) and the length that are lent to them.
+-- The functions of crate `desk`, which desk_c exports: the result, and the state, the output (or the block) and the length that are lent to them.
 use Rattle.desk.proofs.chhutirok_fresh.Reads as chhutirok-fresh
 use Rattle.desk.proofs.chhutirok_wake.Reads as chhutirok-wake
 use Rattle.desk.proofs.chhutirok_idle.Reads as chhutirok-idle

@@ -2,7 +2,7 @@
 ghost use Rattle.std.specs.Prelude.{◌≡◌, ◌++◌, ◌+◌, ◌*◌, ◌≤◌, ◌<◌, length};
 ghost use Rattle.std.proofs.lemmas.List.Edits.{sets};
 ghost use Rattle.records.specs.Records.{ascii, hex_digit, hex, zeros_in_front, decimal, event_line, line_of, too_long, put_length, put_output};
-ghost use Rattle.records.specs.Records.{digit as decimalDigit, is_answered};
+ghost use Rattle.records.specs.Records.{digit as decimal_digit, is_answered};
 
 use crate::Record;
 use rules::Number;
@@ -111,7 +111,7 @@ fn put_event(out: &mut [u8], at: usize, name: &[u8], number: Number, answer: &[u
 }
 
 fn digit(n: u16) -> u8
-    ensures { result ≡ decimalDigit n }
+    ensures { result ≡ decimal_digit n }
 {
     b'0' + (n % 10) as u8
 }

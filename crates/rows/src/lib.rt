@@ -9,6 +9,7 @@ ghost use Rattle.rows.specs.Row.{fitting, row};
 use rules::{Device, Slot};
 
 // How many of n bytes stand in a zone of `len` bytes from a position on.
+#[tactic(auto, unfolding(crate::specs::Row::fitting))]
 pub fn room(len: usize, at: usize, n: usize) -> usize
     ensures { result ≡ fitting len at n }
 {

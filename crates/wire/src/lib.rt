@@ -59,6 +59,7 @@ fn put_fitting(out: &mut [u8], p: &[u8]) -> usize
 }
 
 // The frame of an answer of up to 32 bytes at the front of an output of at least 35; its length. Else nothing, and 0.
+#[tactic(auto, unfolding(crate::specs::Wire::put_length, crate::specs::Wire::put_output, crate::specs::Wire::fits))]
 pub fn put(out: &mut [u8], p: &[u8]) -> usize
     ensures value { result ≡ put_length out.old p.now }
     ensures out_after { out.new ≡ put_output out.old p.now }

@@ -29,8 +29,8 @@ put-long input out h room g =
     let long = g'.value ∙ sym p.0 in
     record { value = omega arith; out_after = g'.out_after ∙ sym p.1 }
 
-pub returns-then-input-gt65536 : goal.returns-then-input-gt65536
-returns-then-input-gt65536 c =
+pub returns-then-input-gt-LIMIT : goal.returns-then-input-gt-LIMIT
+returns-then-input-gt-LIMIT c =
     let x = c.args in
     put-long x.input.now x.out.now (omega arith) c.requires c.put_too_long.ensures
 

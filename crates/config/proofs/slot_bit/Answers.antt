@@ -3,10 +3,10 @@ use Rattle.rules.proofs.Tests.{bit_none}
 use borrow.Author.Rules.{rules}
 use Rattle.config.proofs.slot_bit.Goals as goal
 
-pub returns-then-n-lt16 : goal.returns-then-n-lt16
-returns-then-n-lt16 c = rw c.slot_config-x.ensures
+pub returns-then-n-lt-BITS : goal.returns-then-n-lt-BITS
+returns-then-n-lt-BITS c = rw c.slot_config-x.ensures
 
-pub returns-else-n-lt16 : goal.returns-else-n-lt16
-returns-else-n-lt16 c =
+pub returns-else-n-lt-BITS : goal.returns-else-n-lt-BITS
+returns-else-n-lt-BITS c =
     let n = c.args.n in
     rw (← c.slot_config-x.ensures, bit_none n c.slot_config-x.result 16 (search rules) (search rules))

@@ -29,7 +29,7 @@
  * The numbers that calls give stand below. 40 comes before 1 and 1 before 2, and these before all else; with them no byte of state and
  * output is changed.
  *
- * Calling. x86-64 and its System V calling form; of the C library the archive needs memcpy and memset. Every pointer has behind it as many
+ * Calling. x86-64-v2 and the System V calling form; of the C library the archive needs memcpy and memset. Every pointer has behind it as many
  * bytes as the length after it says. No two buffers of a call overlap, `length` among them, and `length` is never null. A pointer whose
  * length is 0 may be null: an empty image, block or input is taken as such, an empty state, random or output is refused by its number.
  * The archive has no data of its own: calls on different states may run in threads at once, two calls on one state may not.

@@ -82,9 +82,9 @@ FNR == 1 {
     kind = FILENAME ~ /[.]rt$/ ? "rt" : FILENAME ~ /[.]antt$/ ? "antt" : "other"
     close_blocks(0)
     function_line = 0
-    script = /^#!/
+    script = /^#!\//
 }
-FNR == 1 + script && !/^(\/\/|\/\*|--|#|""").*[A-Za-z]/ { fail(FILENAME, FNR, "does not open with a line on what it is") }
+FNR == 1 + script && !/^(\/\/|\/\*|--|#[^!]|""").*[A-Za-z]/ { fail(FILENAME, FNR, "does not open with a line on what it is") }
 FNR == 301 && FILENAME != adopted && FILENAME !~ /[.]md$/ { fail(FILENAME, FNR, "more than 300 lines") }
 kind == "other" { next }
 
@@ -102,6 +102,17 @@ kind == "rt" && code ~ /^ *(pub(\(crate\))? )?(extern "C" )?fn / {
 kind == "rt" && function_line && code ~ /^ *}/ && indent_of(code) == function_indent {
     if (FNR - function_line >= 45) fail(FILENAME, function_line, "a function of " FNR - function_line + 1 " lines")
     function_line = 0
+}
+
+# a function's attribute cites too: #[tactic(auto, using(a::proofs::M::law, ..), unfolding(a::specs::M::word, ..))]
+kind == "rt" && code ~ /#\[tactic[(]/ {
+    n = split(code, parts, /[(), \]]+/)
+    for (i = 1; i <= n; i++) {
+        if (split(parts[i], steps, "::") != 4) continue
+        crate = steps[1] == "crate" ? FILENAME : "crates/" steps[1]
+        if (steps[1] == "crate") sub(/\/src\/.*/, "", crate)
+        cited[crate "/" steps[2] "/" steps[3] ".antt", steps[4]] = 1
+    }
 }
 
 # imports: use A.B.{x, y}, ghost use A.B.{x, y}; use A.B as x; use a::b

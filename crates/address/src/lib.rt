@@ -29,7 +29,7 @@ pub fn slot_of(f: Fields) -> Slot
 }
 
 // Configuration word 16 up is 4 bytes only.
-#[tactic(auto, unfolding(rules::specs::Address::address_fits))]
+#[tactic(auto, using(rules::proofs::Tests::then_true, rules::proofs::Tests::then_false), unfolding(rules::specs::Address::address_fits))]
 pub fn address_fits(f: Fields) -> bool
     ensures { result ≡ address_fits f }
 {

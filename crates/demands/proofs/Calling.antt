@@ -29,10 +29,10 @@ use Rattle.demands.specs.Calls.{Call, turn_of, given, output_of, answer_of, righ
 pub turn_device : (P : Device → Type 0) (d : Device) (p : Power) (e : Event) (supplied : List ℕ) → P d → P (with_temp_key emptied d)
     → ((b : List ℕ) → e ≡ block b → is_awake p ≡ true → whole b ≡ true → P (apply (plan_for d b supplied) d)) → P (turn d p e supplied).device
 unfolding wake_turn idle_turn sleep_turn block_turn
-turn_device P d p wake supplied same emptied planned = if_either (λ (t : Turn). P t.device) (is_awake p) same same
-turn_device P d p idle supplied same emptied planned = same
-turn_device P d p sleep supplied same emptied planned = emptied
-turn_device P d p (block b) supplied same emptied planned =
+turn_device P d p wake supplied same empty planned = if_either (λ (t : Turn). P t.device) (is_awake p) same same
+turn_device P d p idle supplied same empty planned = same
+turn_device P d p sleep supplied same empty planned = empty
+turn_device P d p (block b) supplied same empty planned =
     if_all (λ (t : Turn). P t.device) (is_awake p) _ _
     (λ a. if_all (λ (t : Turn). P t.device) (whole b) _ _ (λ w. planned b refl a w) (λ _. same))
     (λ _. same)

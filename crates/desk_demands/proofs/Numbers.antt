@@ -15,7 +15,7 @@ use Rattle.desk.specs.Desk as desk
 use Rattle.desk.specs.Desk.{is_state, loaded}
 use Rattle.demands.specs.Calls.{Call, given, right_buffers}
 use Rattle.demands.proofs.Demand1.{by_cause}
-use Rattle.desk_demands.specs.Calls.{call_number, call_state, call_output, call_length, bytes_after}
+use Rattle.desk_demands.specs.Calls.{call_number, call_state, call_length, bytes_after}
 use Rattle.desk_demands.proofs.Carried.{call_gives_number}
 
 -- ---- bytes that are no state
@@ -24,10 +24,6 @@ module _ (s : List ℕ) (c : Call) (h : is_state s ≡ false) where
   pub none_state : call_state s c ≡ s
   unfolding desk.state_after
   none_state = rw h
-
-  pub none_output : call_output s c ≡ c.output
-  unfolding desk.output_of
-  none_output = rw h
 
   pub none_length : call_length s c ≡ 0
   unfolding desk.answer_length

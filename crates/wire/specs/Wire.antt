@@ -1,5 +1,5 @@
 -- Blocks and answers on the wire, as document 01 has them: the check value, the frame of an answer, and when a block is whole.
-use Rattle.std.specs.Prelude.{ℕ, zero, suc, ◌+◌, ◌-◌, ◌*◌, ◌/◌, ◌%◌, List, [], ◌∷◌, ◌++◌, Bool, true, false, ◌&&◌, length, get_or, take, drop, eqb, leb, if◌then◌else◌}
+use Rattle.std.specs.Prelude.{ℕ, zero, suc, ◌+◌, ◌-◌, ◌*◌, ◌/◌, ◌%◌, List, [], ◌∷◌, ◌++◌, Bool, ◌&&◌, length, get_or, take, drop, eqb, leb, if◌then◌else◌}
 use Rattle.std.specs.Int.Bits.{bit_xor}
 
 -- ---- Check value: 16 bits, polynomial 8005, start 0, each byte's lowest bit first, over all bytes before it.

@@ -10,7 +10,7 @@ use rules::{Fields, Slot, TempKey, Word};
 pub fn size_of(f: Fields) -> usize
     ensures { result ≡ size f }
 {
-    if f.param1 / 128 % 2 == 1 { 32 } else { 4 }
+    if config::param1_bit(7, f) { 32 } else { 4 }
 }
 
 // Param2 is a word address.
@@ -24,8 +24,7 @@ pub fn word_of(f: Fields) -> Word
 pub fn slot_of(f: Fields) -> Slot
     ensures { result ≡ slot_of (word f) }
 {
-    let w = word_of(f);
-    Slot((w.0 / 8 % 16) as u8)
+    Slot((word_of(f).0 / 8 % 16) as u8)
 }
 
 // Configuration word 16 up is 4 bytes only.
@@ -33,50 +32,38 @@ pub fn slot_of(f: Fields) -> Slot
 pub fn address_fits(f: Fields) -> bool
     ensures { result ≡ address_fits f }
 {
-    let zone = f.param1 % 4;
-    let w = word_of(f);
-    let at = w.0;
-    match zone {
-        0 => match at {
-            0..=15 => true,
-            16..=21 => f.param1 / 128 % 2 != 1,
-            _ => false,
-        },
-        1 => match at {
-            0..=15 => true,
-            _ => false,
-        },
-        2 => match at {
-            0..=127 => true,
-            _ => false,
-        },
+    match (f.param1 % 4, word_of(f).0) {
+        (0 | 1, 0..=15) | (2, 0..=127) => true,
+        (0, 16..=21) => !config::param1_bit(7, f),
         _ => false,
     }
 }
 
 // The position of the first byte: at 32 bytes the low three bits are ignored.
+#[tactic(auto, unfolding(rules::specs::Address::position))]
 pub fn position_of(f: Fields) -> usize
     ensures { result ≡ position f }
 {
-    let w = word_of(f);
-    if f.param1 / 128 % 2 == 1 {
-        32 * ((w.0 / 8) as usize)
+    let at = word_of(f).0 as usize;
+    if config::param1_bit(7, f) {
+        32 * (at / 8)
     } else {
-        4 * (w.0 as usize)
+        4 * at
     }
 }
 
 // Valid, GenData 1, CheckFlag 0.
+#[tactic(auto, unfolding(rules::specs::Address::encrypts))]
 pub fn encrypts(t: TempKey) -> bool
     ensures { result ≡ encrypts t }
 {
-    t.valid & t.genData & !t.checkFlag
+    t.valid && t.genData && !t.checkFlag
 }
 
 // SlotID = a key's number, SourceFlag = CheckMacConfig bit slot/2.
+#[tactic(auto, unfolding(rules::specs::Address::encrypts_for))]
 pub fn encrypts_for(c: [u8; 88], t: TempKey, by: Slot, k: Slot) -> bool
     ensures { result ≡ encrypts_for c t by k }
 {
-    let id = t.slotID;
-    (id.0 % 16 == by.0 % 16) & (t.sourceFlag == config::check_mac_bit(c, k))
+    t.slotID.0 % 16 == by.0 % 16 && t.sourceFlag == config::check_mac_bit(c, k)
 }

@@ -9,6 +9,7 @@ use Rattle.rules.specs.declared.Number.TheVariants.{NoAnswer}
 use Rattle.rules.specs.Events.{Turn, output_after, block_turn}
 use Rattle.token.specs.declared.Token.{Token}
 use Rattle.token.specs.declared.Outcome.{Outcome}
+use Rattle.token.specs.declared.fresh.Made.{Made}
 use Rattle.token.specs.Outcome.{outcome, unchanged, fresh_of}
 use Rattle.records.specs.declared.Record.{Record}
 use Rattle.records.specs.declared.Record.TheVariants.{Image, Block, Bad}
@@ -36,9 +37,9 @@ random_whole input at n e =
 
 -- each arm of a step: what the record is known to be, and what was given for that
 module _ (s : Token) (input : List ℕ) (at : ℕ) (before : List ℕ) (h : length before ≡ 35) {what : Record} {o : Outcome} where
-  pub image_given : {image : List ℕ} → what ≡ Image → image ≡ image_at input at → o ≡ unchanged (fresh_of image).token NoAnswer
-      → Given (turn_of what s input at) before o before
-  image_given w e g = rw (w, g, e) (record { value = refl; output_after = refl })
+  pub image_given : {image : List ℕ} {made : Made} → what ≡ Image → image ≡ image_at input at → made ≡ fresh_of image
+      → o ≡ unchanged made.token NoAnswer → Given (turn_of what s input at) before o before
+  image_given w e m g = rw (w, g, m, e) (record { value = refl; output_after = refl })
 
   pub event_given : (it : Record) (random : List ℕ) {out : List ℕ} → length random ≡ 32 → what ≡ it
       → record {

@@ -2,12 +2,12 @@
 use Rattle.std.specs.Prelude.{if◌then◌else◌}
 use Prim.Native.Nat.{ℕ, zero, suc, ◌+◌, ◌-◌, ◌≤◌, ◌<◌}
 use mathlib.Core.Path.{◌≡◌, refl, sym, ◌∙◌}
-use mathlib.Core.Bool.{true, false}
+use mathlib.Core.Bool.{false}
 use mathlib.Core.List.{List, [], ◌++◌, append-nil}
 use native.Mathlib.Omega.{arith}
 use borrow.Author.Tests.{lt-ltb, le-ltb}
 use lib.ListN.{length, length-append}
-use lib.Seq.{sets, length-sets}
+use lib.Seq.{sets}
 use Rattle.token.specs.declared.Token.{Token}
 use Rattle.token.specs.Outcome.{fresh_of}
 use Rattle.records.specs.declared.Record.{Record}
@@ -19,20 +19,12 @@ use Rattle.bench.specs.Bench.{turn_at, after, line_at, is_bad, lines_from, lines
 use Rattle.bench.proofs.Line.{IsTold}
 
 -- only a bad record takes no bytes
-bad : (r : Record) → length_of r ≡ 0 → is_bad r ≡ true
-bad Image h = absurd (omega arith)
-bad Wake h = absurd (omega arith)
-bad Idle h = absurd (omega arith)
-bad Sleep h = absurd (omega arith)
-bad (Block n) h = absurd (omega arith)
-bad Bad h = refl
-
-not_bad : (r : Record) → (length_of r ≡ 0 → ⊥) → is_bad r ≡ false
-not_bad Image h = refl
-not_bad Wake h = refl
-not_bad Idle h = refl
-not_bad Sleep h = refl
-not_bad (Block n) h = refl
+not_bad : (r : Record) → (r ≡ Bad → ⊥) → (is_bad r ≡ false) × (0 < length_of r)
+not_bad Image h = (refl, omega arith)
+not_bad Wake h = (refl, omega arith)
+not_bad Idle h = (refl, omega arith)
+not_bad Sleep h = (refl, omega arith)
+not_bad (Block n) h = (refl, omega arith)
 not_bad Bad h = absurd (h refl)
 
 module _ (s : Token) (input : List ℕ) (at : ℕ) where
@@ -77,27 +69,31 @@ module _ {input out₀ : List ℕ} {s : Token} {out : List ℕ} {used at : ℕ} 
       let e = rw (at_record s input at l.n h l.enough, length-append) at l.count in
       omega arith
 
-  module _ {next : Token} {taken end : ℕ} {last : List ℕ} (t : IsTold s input at out used next taken end last) where
-    pub told_within : taken ≤ length input - at
-    told_within = rw t.taken_value (record_within input at)
-
-    pub told_length : length last ≡ length out
-    told_length = rw t.out_after (length-sets out used (line_at s input at))
+  module _ {what : Record} {next : Token} {end : ℕ} {last : List ℕ} (w : what ≡ record_at input at)
+      (t : IsTold s input at out used next end last) where
+    pub told_within : length_of what ≤ length input - at
+    told_within = rw w (record_within input at)
 
     -- it is the last
-    pub ended : at < length input → taken ≡ 0 → record { value : end ≡ length (lines input); out_after : last ≡ sets out₀ 0 (lines input) }
+    pub ended : at < length input → what ≡ Bad → record { value : end ≡ length (lines input); out_after : last ≡ sets out₀ 0 (lines input) }
     ended h z =
+        let bad : record_at input at ≡ Bad = sym w ∙ z in
         let e : lines_from l.n s input at ≡ line_at s input at =
-        rw (at_record s input at l.n h l.enough, bad (record_at input at) (sym t.taken_value ∙ z)) (append-nil (line_at s input at)) in
+        rw (at_record s input at l.n h l.enough, bad) (append-nil (line_at s input at)) in
         record { value = t.used_value ∙ rw e at l.count; out_after = t.out_after ∙ rw e at l.stored }
 
     -- it is not the last
-    pub goes_on : at < length input → (taken ≡ 0 → ⊥) → Left input out₀ next last end (at + taken)
+    pub goes_on : at < length input → (what ≡ Bad → ⊥) → Left input out₀ next last end (at + length_of what)
     goes_on h z =
         let rest = lines_from (l.n - 1) (after (turn_at s input at)) input (at + length_of (record_at input at)) in
-        let more : length_of (record_at input at) ≡ 0 → ⊥ = λ e. z (t.taken_value ∙ e) in
-        let e : lines_from l.n s input at ≡ line_at s input at ++ rest = rw (at_record s input at l.n h l.enough, not_bad (record_at input at) more) in
+        let more = not_bad (record_at input at) (λ (e : record_at input at ≡ Bad). z (w ∙ e)) in
+        let e : lines_from l.n s input at ≡ line_at s input at ++ rest = rw (at_record s input at l.n h l.enough, more.0) in
         let c = rw (e, length-append) at l.count in
         let p = rw e at l.stored in
-        rw (t.token_value, t.taken_value, t.used_value, t.out_after)
-        record { n = l.n - 1; enough = omega (arith, l.enough); count = omega arith; stored = sets_append (line_at s input at) rest out used ∙ p }
+        rw (t.token_value, w, t.used_value, t.out_after)
+        record {
+          n = l.n - 1;
+          enough = omega (arith, l.enough, more.1);
+          count = omega arith;
+          stored = sets_append (line_at s input at) rest out used ∙ p;
+        }

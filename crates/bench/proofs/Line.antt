@@ -11,7 +11,7 @@ use Rattle.rules.specs.Events.{number_for, front_of}
 use Rattle.token.specs.declared.Token.{Token}
 use Rattle.token.specs.declared.Outcome.{Outcome}
 use Rattle.records.specs.declared.Record.{Record}
-use Rattle.records.specs.Records.{record_at, length_of, line_of, put_length, put_output}
+use Rattle.records.specs.Records.{record_at, line_of, put_length, put_output}
 use Rattle.records.proofs.Put.{placed}
 use Rattle.bench.specs.Bench.{turn_of, turn_at, after, line_at}
 use Rattle.bench.proofs.Given.{Given}
@@ -29,24 +29,24 @@ module _ (s : Token) (input : List ℕ) (at : ℕ) where
   unfolding line_at
   line_is w e f = rw (e, f, w)
 
-  -- the four promises of `tell`
-  abbrev pub IsTold : List ℕ → ℕ → Token → ℕ → ℕ → List ℕ → Type 0
-  IsTold out used next taken end last =
+  -- the three promises of `tell`
+  abbrev pub IsTold : List ℕ → ℕ → Token → ℕ → List ℕ → Type 0
+  IsTold out used next end last =
       record {
         token_value : next ≡ after (turn_at s input at);
-        taken_value : taken ≡ length_of (record_at input at);
         used_value : end ≡ used + length (line_at s input at);
         out_after : last ≡ sets out used (line_at s input at);
       }
 
-  module _ (before out : List ℕ) (used : ℕ) (room : used + length (line_at s input at) ≤ length out) {what : Record} {o : Outcome} {after-step answer last : List ℕ} {taken n : ℕ} where
-    pub told : what ≡ record_at input at → taken ≡ length_of what → Given (turn_of what s input at) before o after-step → answer ≡ front_of o.length after-step
+  module _ (before out : List ℕ) (used : ℕ) (room : used + length (line_at s input at) ≤ length out) {what : Record} {o : Outcome}
+      {after-step answer last : List ℕ} {n : ℕ} where
+    pub told : what ≡ record_at input at → Given (turn_of what s input at) before o after-step → answer ≡ front_of o.length after-step
         → record {
           value : n ≡ put_length out used (line_of what at o.number answer);
           out_after : last ≡ put_output out used (line_of what at o.number answer);
         }
-        → IsTold out used o.token taken (used + n) last
-    told w k g f l =
+        → IsTold out used o.token (used + n) last
+    told w g f l =
         let a : answer ≡ (turn_of what s input at).answer = f ∙ rw (g.value, g.output_after) (front_answer (turn_of what s input at).answer _) in
         let line = line_is w (ap (λ (x : Outcome). x.number) g.value) a in
         let p = placed out (line_at s input at) used room refl refl in
@@ -54,7 +54,6 @@ module _ (s : Token) (input : List ℕ) (at : ℕ) where
         let long : n ≡ used + length (line_at s input at) - used = m.value ∙ sym p.0 in
         record {
           token_value = ap (λ (x : Outcome). x.token) g.value ∙ rw w;
-          taken_value = k ∙ ap length_of w;
           used_value = omega arith;
           out_after = m.out_after ∙ sym p.1;
         }

@@ -9,14 +9,14 @@ use borrow.Author.Tests.{leb-true}
 use lib.Dec.{lit≤}
 use lib.ListN.{length, length-append, length-drop}
 use Rattle.wire.specs.Wire.{whole}
+use Rattle.wire.proofs.Cases.{if_all, if_either}
 use Rattle.wire.proofs.Laws.{length_frame}
 use Rattle.rules.specs.declared.Device.{Device}
 use Rattle.rules.specs.declared.Power.{Power}
 use Rattle.rules.specs.declared.Status.TheVariants.{Woken, Damaged}
 use Rattle.rules.specs.Words.{◌under◌, ◌up_to◌}
 use Rattle.rules.specs.State.{is_awake, status_byte}
-use Rattle.rules.specs.Plan.{apply}
-use Rattle.rules.specs.Events.{Turn, silent, answering, wake_turn, idle_turn, sleep_turn, block_turn, plan_for, number_for}
+use Rattle.rules.specs.Events.{Turn, wake_turn, idle_turn, sleep_turn, block_turn, plan_for, number_for}
 use Rattle.token.specs.declared.Token.{Token}
 use Rattle.token.specs.Outcome.{fresh_of}
 use Rattle.rules.proofs.Answers.{few_for}
@@ -28,30 +28,22 @@ use Rattle.records.proofs.Within.{record_within}
 use Rattle.bench.specs.Bench.{turn_of, turn_at, after, line_at, is_bad, lines_from, lines, printed}
 use Rattle.bench.proofs.Given.{random_whole}
 
--- what is short in both cases is short
-either : (t : Bool) (a b : List ℕ) (m : ℕ) → (t ≡ true → length a ≤ m) → length b ≤ m → length (if t then a else b) ≤ m
-either true a b m h k = h refl
-either false a b m h k = k
-
-shorter : (t : Bool) (a b : Turn) (m : ℕ) → length a.answer ≤ m → length b.answer ≤ m → length (if t then a else b).answer ≤ m
-shorter true a b m h k = h
-shorter false a b m h k = k
-
 -- ---- answers
 
 wake_short : (d : Device) (p : Power) → length (wake_turn d p).answer ≤ 4
 unfolding wake_turn
-wake_short d p = shorter (is_awake p) (silent d p) _ 4 (omega arith) (rw (length_frame (status_byte Woken ∷ [])) (lit≤ tt))
+wake_short d p =
+    let short = λ (t : Turn). length t.answer ≤ 4 in
+    if_either short (is_awake p) (omega arith) (rw (length_frame (status_byte Woken ∷ [])) (lit≤ tt))
 
 block_short : (d : Device) (p : Power) (block supplied : List ℕ) → length supplied ≡ 32 → length (block_turn d p block supplied).answer ≤ 35
 unfolding block_turn
 block_short d p block supplied h =
     let plan = plan_for d block supplied in
-    let done = answering (apply plan d) p plan.answer in
-    let damaged = answering d p (status_byte Damaged ∷ []) in
     let few = few_for d block supplied h in
-    shorter (is_awake p) (if whole block then done else damaged) (silent d p) 35
-    (shorter (whole block) done damaged 35 (rw (length_frame plan.answer) (omega arith)) (rw (length_frame (status_byte Damaged ∷ [])) (lit≤ tt)))
+    let short = λ (t : Turn). length t.answer ≤ 35 in
+    if_either short (is_awake p)
+    (if_either short (whole block) (rw (length_frame plan.answer) (omega arith)) (rw (length_frame (status_byte Damaged ∷ [])) (lit≤ tt)))
     (omega arith)
 
 -- ---- lines
@@ -106,13 +98,13 @@ lines_short (suc n) s input at =
     let rest = lines_from n (after (turn_at s input at)) input (at + k) in
     let g = lines_short n (after (turn_at s input at)) input (at + k) in
     let e : length input - (at + k) ≡ room - k = omega arith in
-    either (at under length input) _ [] (7 * room + 10)
+    if_all (λ l. length l ≤ 7 * room + 10) (at under length input) _ []
     (λ _. one_more (is_bad (record_at input at)) (line_at s input at) rest k room (line_short s input at) (rw e at g) (record_within input at))
-    (omega arith)
+    (λ _. omega arith)
 
 pub printed_short : (input : List ℕ) → length (printed input) ≤ 458762
 unfolding printed lines
 printed_short input =
-    either (length input up_to 65536) _ too_long 458762
+    if_all (λ l. length l ≤ 458762) (length input up_to 65536) _ too_long
     (λ e. let h : length input ≤ 65536 = leb-true (length input) 65536 e in omega (arith, lines_short (length input) (fresh_of []).token input 0))
-    (lit≤ tt)
+    (λ _. lit≤ tt)

@@ -1,4 +1,4 @@
--- What the stores of a block come to, what its length tells, and how a block that was put is read.
-pub mod Stored
+-- That a block is the frame of its header and data, what its length tells, and how a block that was put is read.
+pub mod Framed
 pub mod Fits
 pub mod Sent

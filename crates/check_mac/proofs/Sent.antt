@@ -1,24 +1,16 @@
 -- What was sent: the code hands it on in rows of 32 bytes, and the rules look at the bytes themselves.
 use Prim.Native.Nat.{ℕ, ◌+◌, ◌≤◌}
 use mathlib.Core.Path.{◌≡◌}
-use mathlib.Core.Bool.{true}
-use mathlib.Core.List.{List, [], ◌∷◌, ◌++◌}
+use mathlib.Core.List.{List, ◌++◌}
 use native.Mathlib.Omega.{arith}
 use lib.ListN.{length, take, drop, length-take, length-drop}
 use lib.Seq.{take-append-le, drop-append-le}
-use borrow.Author.Tests.{eqb-true}
 use Rattle.rules.specs.declared.Fields.{Fields}
-use Rattle.rules.specs.Words.{◌is◌, only_bits, zeros}
+use Rattle.rules.specs.Words.{zeros}
 use Rattle.rules.specs.Messages.{check_mac_message}
-use Rattle.rules.specs.CheckMac.{check_mac_shape, other}
-use Rattle.rules.proofs.Tests.{and_right}
+use Rattle.rules.specs.CheckMac.{other}
 use Rattle.rows.specs.Row.{row}
 use Rattle.rows.proofs.Row.{row_there}
-
--- always 77 bytes
-pub check_length : (f : Fields) (input : List ℕ) → check_mac_shape f input ≡ true → length input ≡ 77
-unfolding check_mac_shape
-check_length f input h = eqb-true (length input) 77 (and_right (only_bits (0 ∷ 1 ∷ 2 ∷ 5 ∷ []) f.param1) (length input is 77) h)
 
 -- the 13 bytes of the row are all that the message looks at
 front : (o z : List ℕ) (at n : ℕ) → at + n ≤ length o → take n (drop at (o ++ z)) ≡ take n (drop at o)

@@ -22,36 +22,48 @@ pub fn only_bits(mask: u8, x: u8) -> bool
     x & mask == x
 }
 
+#[tactic(auto, unfolding(rules::specs::State::slot_config))]
 fn slot_config(c: [u8; 88], k: Slot) -> u16
     ensures { result ≡ slot_config c k }
 {
-    let at = 20 + 2 * ((k.0 % 16) as usize);
-    (c[at] as u16) + 256 * (c[at + 1] as u16)
+    let at = 20 + 2 * (k.0 as usize % 16);
+    u16::from_le_bytes([c[at], c[at + 1]])
 }
 
-// A slot's configuration has so many bits.
+// A field has at most so many bits.
 const BITS: u16 = 16;
 
-// Bit n of a slot's SlotConfig; there is none above 15.
+// Bit n of a field; there is none above 15.
+fn bit(n: u16, x: u16) -> bool
+    ensures { result ≡ bit n x }
+{
+    n < BITS && (x >> n) % 2 == 1
+}
+
+// Bit n of Param1.
+pub fn param1_bit(n: u16, f: Fields) -> bool
+    ensures { result ≡ bit n f.param1 }
+{
+    bit(n, f.param1 as u16)
+}
+
+// Bit n of a slot's SlotConfig.
 pub fn slot_bit(n: u16, c: [u8; 88], k: Slot) -> bool
     ensures { result ≡ bit n (slot_config c k) }
 {
-    let x = slot_config(c, k);
-    if n < BITS { (x >> n) % 2 == 1 } else { false }
+    bit(n, slot_config(c, k))
 }
 
 pub fn write_key(c: [u8; 88], k: Slot) -> Slot
     ensures { result ≡ write_key c k }
 {
-    let x = slot_config(c, k);
-    Slot((x / 256 % 16) as u8)
+    Slot((slot_config(c, k) / 256 % 16) as u8)
 }
 
 pub fn read_key(c: [u8; 88], k: Slot) -> Slot
     ensures { result ≡ read_key c k }
 {
-    let x = slot_config(c, k);
-    Slot((x % 16) as u8)
+    Slot((slot_config(c, k) % 16) as u8)
 }
 
 // CheckMacConfig bit slot/2.
@@ -59,7 +71,7 @@ pub fn check_mac_bit(c: [u8; 88], k: Slot) -> bool
     ensures { result ≡ check_mac_bit c k }
 {
     let n = k.0 % 16 / 2;
-    (c[17] >> n) % 2 == 1
+    bit(n as u16, c[17] as u16)
 }
 
 pub fn config_locked(c: [u8; 88]) -> bool
@@ -77,7 +89,5 @@ pub fn values_locked(c: [u8; 88]) -> bool
 pub fn both_locked(c: [u8; 88]) -> bool
     ensures { result ≡ both_locked c }
 {
-    let config = config_locked(c);
-    let values = values_locked(c);
-    if config { values } else { false }
+    config_locked(c) && values_locked(c)
 }

@@ -1,15 +1,14 @@
 -- How long the answers of a well-formed state are: a command answers with 1, 4 or 32 bytes, and a frame adds 3.
 use Rattle.std.specs.Prelude.{if◌then◌else◌}
 use Prim.Native.Nat.{ℕ, ◌+◌, ◌*◌, ◌≤◌}
-use mathlib.Core.Path.{◌≡◌, refl, ap, ◌∙◌}
+use mathlib.Core.Path.{◌≡◌, refl, sym, ap, ◌∙◌}
 use mathlib.Core.Bool.{Bool, true, false}
 use mathlib.Core.Logic.{◌⊎◌, inl, inr}
 use mathlib.Core.List.{List, [], ◌∷◌}
 use native.Mathlib.Omega.{arith}
 use borrow.Author.Tests.{eqb-true, eqb-false, ltb-false}
 use lib.Bits.{bit_xor}
-use lib.ListN.{length, take, drop, get_or, set, length-set, length-append, length-take, length-drop, length-replicate}
-use lib.Seq.{paste}
+use lib.ListN.{length, take, drop}
 use Rattle.wire.specs.Wire.{bit_in, bits_in, check_from, check_value, counted, frame, low_first_at, whole}
 use Rattle.wire.proofs.Cases.{if_all, if_either}
 use Rattle.wire.proofs.Laws.{length_frame}
@@ -17,7 +16,7 @@ use Rattle.rules.specs.declared.Device.{Device}
 use Rattle.rules.specs.declared.Fields.{Fields}
 use Rattle.rules.specs.declared.Number.TheVariants.{Answered}
 use Rattle.rules.specs.declared.Slot.{Slot}
-use Rattle.rules.specs.Words.{◌⇒◌, ◌is◌, bit, bytes, zeros, equal, xor_row}
+use Rattle.rules.specs.Words.{◌⇒◌, ◌is◌, bit, bytes, equal, xor_row}
 use Rattle.rules.specs.State.{index, slot_bytes, number_of, is_awake, is_secret}
 use Rattle.rules.specs.Plan.{Plan}
 use Rattle.rules.specs.Nonce.{four_times, used_random, nonce_input, nonce_random, nonce, random_shape, random}
@@ -32,7 +31,7 @@ use Rattle.rules.specs.Upkeep.{lock, update_extra, dev_rev_shape, dev_rev}
 use Rattle.rules.specs.Commands.{Command, a_read, a_mac, a_write, a_gen_dig, a_nonce, a_lock, a_random, a_derive_key, an_update_extra, a_check_mac, a_dev_rev, unknown, rule_of, command_of}
 use Rattle.rules.specs.Events.{Event, wake, idle, sleep, block, Turn, turn, wake_turn, idle_turn, sleep_turn, block_turn, plan_for, opcode_of, fields_of, input_of, number_for}
 use Rattle.rules.proofs.Answers.{length_mac, length_used}
-use Rattle.rules.proofs.Rows.{zip_more, zip_all, length_part}
+use Rattle.rules.proofs.Rows.{zip_length, length_part}
 use Rattle.rules.proofs.Settle.{settle_all}
 use Rattle.rules.proofs.Shapes.{read_fits}
 use Rattle.address.proofs.Within.{config_within, otp_within, data_within}
@@ -49,18 +48,9 @@ pub length_slot : (d : Device) (k : Slot) → length d.«data» ≡ 512 → leng
 unfolding slot_bytes
 length_slot d k h = length_part d.«data» (32 * index k) 32 (omega arith)
 
--- a row made of two of 32 bytes: its first 31 bytes, and one more
+-- a row made of two of 32 bytes
 length_xor : (a b : List ℕ) → length a ≡ 32 → length b ≡ 32 → length (xor_row a b) ≡ 32
-length_xor a b ha hb =
-    let z : List ℕ = zeros 32 in
-    let hz : length z ≡ 32 = length-replicate {A = ℕ} 32 0 in
-    let x : List ℕ = xor_row a b in
-    let most : List ℕ = paste z 0 x 31 in
-    let last : ℕ = bit_xor (get_or a 31 0) (get_or b 31 0) in
-    let one = zip_more bit_xor z a b 31 (omega arith) (omega arith) (omega arith) in
-    let all : length (set most 31 last) ≡ length x = ap length (one ∙ zip_all bit_xor z a b 32 hz ha hb) in
-    let count : length most ≡ length (take 31 x) + length (drop 31 z) = length-append (take 31 x) (drop 31 z) in
-    omega (arith, length-set most 31 last, length-take 31 x, length-drop 31 z)
+length_xor a b ha hb = zip_length bit_xor a b (ha ∙ sym hb) ∙ ha
 
 -- ---- commands
 

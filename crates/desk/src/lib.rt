@@ -2,12 +2,11 @@
 // each event loads and saves; and a command as a block.
 #![tactic(auto)]
 
-ghost use Rattle.std.specs.Prelude.{◌≡◌, ◌+◌, ◌≤◌, length};
-ghost use Rattle.std.proofs.lemmas.List.Edits.{sets};
-ghost use Rattle.rules.specs.State.{number_of};
-ghost use Rattle.rules.specs.Events.{wake, idle, sleep, block};
+ghost use Rattle.std.specs.Prelude.{◌≡◌, ◌+◌, ◌≤◌, take, drop};
+ghost use Rattle.rules.specs.Events.{Event, wake, idle, sleep, block, turn, output_after};
+ghost use Rattle.token.specs.Outcome.{outcome};
 ghost use Rattle.blocks.specs.Blocks.{block_length, buffer_after};
-ghost use Rattle.desk.specs.Desk.{in_range, is_state, flag_byte, power, power_byte, temp_key_in, loaded, last_six, saved};
+ghost use Rattle.desk.specs.Desk.{in_range, power, loaded, last_six, saved};
 ghost use Rattle.desk.specs.Desk.{number, state_after, output_of, answer_length, fresh_call_number, fresh_state, frame_number, version};
 
 use rules::{Device, Power, Slot, TempKey};
@@ -16,180 +15,136 @@ use token::{Outcome, Token};
 // CHHUTIROK_VERSION
 const VERSION: u32 = 1;
 
-fn in_range(s: &[u8]) -> bool
-    requires { length s.now ≡ 702 }
+#[tactic(auto, unfolding(crate::specs::Desk::in_range))]
+fn in_range(s: &[u8; 702]) -> bool
     ensures { result ≡ in_range s.now }
 {
-    (s[696] <= 15) & (s[697] <= 1) & (s[698] <= 1) & (s[699] <= 1) & (s[700] <= 1) & (s[701] <= 2)
+    s[696] <= 15 && s[697] <= 1 && s[698] <= 1 && s[699] <= 1 && s[700] <= 1 && s[701] <= 2
 }
 
-fn is_state(s: &[u8]) -> bool
-    ensures { result ≡ is_state s.now }
-{
-    if s.len() == 702 { in_range(s) } else { false }
-}
-
+// No TryFrom: `power` makes a byte above 2 Awake, so no error could come of it; in_range lets no state have one.
 fn power_of(b: u8) -> Power
     ensures { result ≡ power b }
 {
-    if b == 0 {
-        return Power::Asleep;
-    }
-    if b == 1 {
-        return Power::Idle;
-    }
-    Power::Awake
-}
-
-fn power_byte(p: Power) -> u8
-    ensures { result ≡ power_byte p }
-{
-    match p {
-        Power::Asleep => 0,
-        Power::Idle => 1,
-        Power::Awake => 2,
+    match b {
+        0 => Power::Asleep,
+        1 => Power::Idle,
+        _ => Power::Awake,
     }
 }
 
-fn flag_byte(b: bool) -> u8
-    ensures { result ≡ flag_byte b }
+// The N bytes from a place on.
+fn part<const N: usize>(s: &[u8; 702], at: usize) -> [u8; N]
+    requires { at + N ≤ 702 }
+    ensures { result ≡ take N (drop at s.now) }
 {
-    if b { 1 } else { 0 }
+    *s[at..at + N].as_array().unwrap()
 }
 
-// The bytes of p over those of s from a place on.
-fn lay(s: &mut [u8], at: usize, p: &[u8])
-    requires { at + length p.now ≤ length s.old }
-    ensures { s.new ≡ sets s.old at p.now }
+// A cut of its own: token's `device_from` is private, and through `fresh`, its public caller, it is no plainer: that tests
+// the length again and makes an Asleep token, and the check alone did not prove it (tried).
+#[tactic(auto, unfolding(crate::specs::Desk::loaded, crate::specs::Desk::temp_key_in))]
+fn load(s: &[u8; 702]) -> Token
+    ensures { result ≡ loaded s.now }
 {
-    let mut i: usize = 0;
-    while i < p.len() {
-        s[at + i] = p[i];
-        i += 1;
-    }
-}
-
-fn temp_key_in(s: &[u8]) -> TempKey
-    requires { length s.now ≡ 702 }
-    ensures { result ≡ temp_key_in s.now }
-{
-    let bytes = rows::row_of(s, 664, 32);
-    TempKey {
-        bytes,
+    let tempKey = TempKey {
+        bytes: part(s, 664),
         slotID: Slot(s[696]),
         sourceFlag: s[697] == 1,
         genData: s[698] == 1,
         checkFlag: s[699] == 1,
         valid: s[700] == 1,
-    }
-}
-
-fn load(s: &[u8]) -> Token
-    requires { length s.now ≡ 702 }
-    ensures { result ≡ loaded s.now }
-{
-    let mut config = [0u8; 88];
-    lay(&mut config, 0, &s[0..88]);
-    let mut otp = [0u8; 64];
-    lay(&mut otp, 0, &s[88..152]);
-    let mut data = [0u8; 512];
-    lay(&mut data, 0, &s[152..664]);
-    let tempKey = temp_key_in(s);
-    let power = power_of(s[701]);
+    };
     Token {
         device: Device {
-            config,
-            otp,
-            data,
+            config: part(s, 0),
+            otp: part(s, 88),
+            data: part(s, 152),
             tempKey,
         },
-        power,
+        power: power_of(s[701]),
     }
 }
 
+#[tactic(auto, unfolding(crate::specs::Desk::last_six))]
 fn last_six(k: TempKey, p: Power) -> [u8; 6]
     ensures { result ≡ last_six k p }
 {
     [
         k.slotID.0,
-        flag_byte(k.sourceFlag),
-        flag_byte(k.genData),
-        flag_byte(k.checkFlag),
-        flag_byte(k.valid),
-        power_byte(p),
+        k.sourceFlag as u8,
+        k.genData as u8,
+        k.checkFlag as u8,
+        k.valid as u8,
+        p as u8,
     ]
 }
 
-fn save(s: &mut [u8], t: Token)
-    requires { length s.old ≡ 702 }
+fn save(s: &mut [u8; 702], t: Token)
     ensures { s.new ≡ saved t }
 {
-    let d = t.device;
-    let config = d.config;
-    lay(s, 0, &config);
-    let otp = d.otp;
-    lay(s, 88, &otp);
-    let data = d.data;
-    lay(s, 152, &data);
-    let k = d.tempKey;
-    let bytes = k.bytes;
-    lay(s, 664, &bytes);
-    let p = t.power;
-    let end = last_six(k, p);
-    lay(s, 696, &end);
+    s[..88].copy_from_slice(&t.device.config);
+    s[88..152].copy_from_slice(&t.device.otp);
+    s[152..664].copy_from_slice(&t.device.data);
+    s[664..696].copy_from_slice(&t.device.tempKey.bytes);
+    s[696..].copy_from_slice(&last_six(t.device.tempKey, t.power));
 }
 
-// What an event gave, handed to the caller.
-fn give(o: Outcome, state: &mut [u8], len: &mut usize) -> u32
-    requires { length state.old ≡ 702 }
-    ensures value { result ≡ number_of o.number }
-    ensures state_after { state.new ≡ saved o.token }
-    ensures len_after { len.new ≡ o.length }
+// An event over the bytes of a state, loaded for it and saved after it; 40 where the bytes are no state:
+// numbers and not a Result, for C (include/chhutirok.h).
+#[tactic(auto, unfolding(crate::specs::Desk::is_state, crate::specs::Desk::number, crate::specs::Desk::state_after, crate::specs::Desk::output_of, crate::specs::Desk::answer_length))]
+fn on_state<F: FnOnce(Token, &[u8], &mut [u8]) -> Outcome>(
+    state: &mut [u8],
+    random: &[u8],
+    output: &mut [u8],
+    length: &mut usize,
+    run: F,
+) -> u32
+    ghost event: { Event }
+    requires callable { F.IsAlwaysCallable run }
+    requires gives { (t : Token) (r : _) (before : _) (o : Outcome) (after : _) → F.post run t r before o after → o ≡ outcome t (turn t.device t.power event r.now) r.now before.now }
+    requires leaves { (t : Token) (r : _) (before : _) (o : Outcome) (after : _) → F.post run t r before o after → after.now ≡ output_after (turn t.device t.power event r.now) r.now before.now }
+    ensures value { result ≡ number state.old event random.now output.old }
+    ensures state_after { state.new ≡ state_after state.old event random.now output.old }
+    ensures output_after { output.new ≡ output_of state.old event random.now output.old }
+    ensures length_after { length.new ≡ answer_length state.old event random.now output.old }
 {
-    *len = o.length;
-    let t = o.token;
-    save(state, t);
-    let n = o.number;
-    token::number_of(n) as u32
+    *length = 0;
+    let Some(s) = state.as_mut_array() else {
+        return 40;
+    };
+    if !in_range(s) {
+        return 40;
+    }
+    let o = run(load(s), random, output);
+    save(s, o.token);
+    *length = o.length;
+    token::number_of(o.number) as u32
 }
 
-// Bytes that are no state.
-fn refuse(len: &mut usize) -> u32
-    ensures value { result ≡ 40 }
-    ensures len_after { len.new ≡ 0 }
-{
-    *len = 0;
-    40
-}
-
+// A fresh state from an image, over 702 bytes that may hold anything; 40 where they are not 702: a number, for C.
+#[tactic(auto, unfolding(crate::specs::Desk::fresh_call_number, crate::specs::Desk::fresh_state))]
 pub fn chhutirok_fresh(image: &[u8], state: &mut [u8]) -> u32
     ensures value { result ≡ fresh_call_number image.now state.old }
     ensures state_after { state.new ≡ fresh_state image.now state.old }
 {
-    if state.len() == 702 {
-        let m = token::fresh::fresh(image);
-        let t = m.token;
-        save(state, t);
-        let n = m.number;
-        token::number_of(n) as u32
-    } else {
-        40
-    }
+    let Some(whole) = state.as_mut_array() else {
+        return 40;
+    };
+    let m = token::fresh::fresh(image);
+    save(whole, m.token);
+    token::number_of(m.number) as u32
 }
 
+// A function for each event, since C has an export for each (include/chhutirok.h), with the parameters that C has: each one line over
+// `on_state`.
 pub fn chhutirok_wake(state: &mut [u8], random: &[u8], output: &mut [u8], length: &mut usize) -> u32
     ensures value { result ≡ number state.old wake random.now output.old }
     ensures state_after { state.new ≡ state_after state.old wake random.now output.old }
     ensures output_after { output.new ≡ output_of state.old wake random.now output.old }
     ensures length_after { length.new ≡ answer_length state.old wake random.now output.old }
 {
-    if is_state(state) {
-        let t = load(state);
-        let o = t.wake(random, output);
-        give(o, state, length)
-    } else {
-        refuse(length)
-    }
+    on_state(state, random, output, length, Token::wake)
 }
 
 pub fn chhutirok_idle(state: &mut [u8], random: &[u8], output: &mut [u8], length: &mut usize) -> u32
@@ -198,13 +153,7 @@ pub fn chhutirok_idle(state: &mut [u8], random: &[u8], output: &mut [u8], length
     ensures output_after { output.new ≡ output_of state.old idle random.now output.old }
     ensures length_after { length.new ≡ answer_length state.old idle random.now output.old }
 {
-    if is_state(state) {
-        let t = load(state);
-        let o = t.idle(random, output);
-        give(o, state, length)
-    } else {
-        refuse(length)
-    }
+    on_state(state, random, output, length, Token::idle)
 }
 
 pub fn chhutirok_sleep(
@@ -218,13 +167,7 @@ pub fn chhutirok_sleep(
     ensures output_after { output.new ≡ output_of state.old sleep random.now output.old }
     ensures length_after { length.new ≡ answer_length state.old sleep random.now output.old }
 {
-    if is_state(state) {
-        let t = load(state);
-        let o = t.sleep(random, output);
-        give(o, state, length)
-    } else {
-        refuse(length)
-    }
+    on_state(state, random, output, length, Token::sleep)
 }
 
 pub fn chhutirok_block(
@@ -239,16 +182,16 @@ pub fn chhutirok_block(
     ensures output_after { output.new ≡ output_of state.old (block sent.now) random.now output.old }
     ensures length_after { length.new ≡ answer_length state.old (block sent.now) random.now output.old }
 {
-    if is_state(state) {
-        let t = load(state);
-        let o = t.block(sent, random, output);
-        give(o, state, length)
-    } else {
-        refuse(length)
-    }
+    on_state(
+        state,
+        random,
+        output,
+        length,
+        |t, random, output| t.block(sent, random, output),
+    )
 }
 
-// A command framed as a block, at the front of the buffer; 42 where its data does not fit.
+// A command framed as a block, at the front of the buffer; 42 where its data does not fit: a number, for C.
 pub fn chhutirok_frame(
     opcode: u8,
     param1: u8,

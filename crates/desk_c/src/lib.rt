@@ -1,4 +1,5 @@
-// The desk's C interface (include/chhutirok.h): each export is the function of its name in the crate desk, and promises what that promises.
+// The desk's C interface (include/chhutirok.h): an export for each call, which is the function of its name in the crate desk, and promises
+// what that promises. In a crate of its own, since the kit's crate is a library or a static library.
 #![tactic(auto)]
 
 ghost use Rattle.std.specs.Prelude.{◌≡◌};

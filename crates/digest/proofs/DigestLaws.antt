@@ -1,13 +1,8 @@
 -- From one block to the digest: the value after one more block, and after all; how long a digest is.
 use Rattle.std.proofs.Common.{◌≡◌, ℕ, suc, ◌+◌, ◌/◌, List, length, refl, ap, ◌∙◌, add-one, arith}
 use Rattle.digest.specs.declared.Words.{Words}
-use Rattle.digest.specs.Sha256.{K, pad, words, block, schedule, rounds, plus, compress, hash, output, sha256}
+use Rattle.digest.specs.Sha256.{pad, words, block, compress, hash, output, sha256}
 use Rattle.digest.proofs.PaddingLaws.{length_pad, length_words}
-
-module _ (v : Words) (b : List ℕ) {w : List ℕ} {s r : Words} where
-  pub compress_law : w ≡ schedule b → s ≡ rounds K w v → r ≡ plus v s → r ≡ compress v b
-  unfolding compress
-  compress_law e₁ e₂ e₃ = cc
 
 module _ (ws : List ℕ) (i : ℕ) {b : List ℕ} {v v' : Words} where
   pub hash_more : b ≡ block ws i → v' ≡ compress v b → v ≡ hash i ws → v' ≡ hash (i + 1) ws

@@ -3,6 +3,5 @@ pub mod FillLaws
 pub mod PaddingLaws
 pub mod ScheduleLaws
 pub mod RoundLaws
-pub mod OutputLaws
 pub mod DigestLaws
 pub mod Vectors

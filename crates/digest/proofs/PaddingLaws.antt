@@ -57,6 +57,9 @@ module _ (m : List ℕ) where
       let f : i - suc (length m) ≡ length zs + k = omega (arith, end_is (length m), length-replicate {A = ℕ} (zeros (length m)) 0) in
       sym (after i h ∙ ap (λ (j : ℕ). get_or (zs ++ cs) j 0) f ∙ get_or-append-add zs cs k 0)
 
+-- which byte stands at each place before the count
+pub ruleset bytes_by_place = (pad_in, pad_one, pad_zero, end_is)
+
 -- ---- the words of a list
 pub length_words : (l : List ℕ) → length (words l) ≡ length l / 4
 unfolding words
@@ -138,6 +141,9 @@ module _ (m : List ℕ) (j : ℕ) (h : j < 16 * ((length m + 8) / 64 + 1)) where
       let q : length m % 2 ^ 29 * 8 ≡ 8 * length m % 2 ^ 32 = omega arith in
       word_law (at (4 * j) 4 (omega arith)) (at (4 * j + 1) 5 (omega arith)) (at (4 * j + 2) 6 (omega arith)) (at (4 * j + 3) 7 (omega arith))
       (q ∙ sym (word_bytes (8 * length m)))
+
+-- which word stands at each place
+pub ruleset words_by_place = (word_in, word_law, word_zero, word_high, word_low)
 
 -- ---- the blocks of a padded message
 module _ (m : List ℕ) (i : ℕ) (h : i < (length m + 8) / 64 + 1) where

@@ -1,5 +1,5 @@
--- The rounds in parts: one more round, and eight more.
-use Rattle.std.proofs.Common.{◌≡◌, ℕ, suc, ◌+◌, ◌-◌, ◌<◌, ◌≤◌, List, [], ◌∷◌, ◌++◌, length, get_or, take, drop, sym, refl, ap, ◌∙◌, ap₂, arith, length-drop, take-append-drop, drop_of_length-le, length-take-le, drop-cons, drop-drop}
+-- The rounds in parts: eight in a row, and those on what is left of two lists.
+use Rattle.std.proofs.Common.{◌≡◌, ℕ, suc, ◌<◌, List, [], ◌∷◌, ◌++◌, length, get_or, drop, refl, ap, ap₂, arith, drop_of_length-le, drop-cons}
 use Rattle.digest.specs.declared.Words.{Words}
 use Rattle.digest.specs.Sha256.{round, rounds}
 
@@ -39,22 +39,13 @@ module _ (k w : List ℕ) (s : Words) {s₀ s₁ s₂ s₃ s₄ s₅ s₆ s₇ :
       let last : rounds (drop 8 k) (drop 8 w) s₇ ≡ s₇ = ap (λ (l : List ℕ). rounds l (drop 8 w) s₇) none in
       cc
 
--- the rounds from t on are eight rounds and those from t + 8 on
-module _ (k w : List ℕ) (t : ℕ) (s : Words) {last : Words} where
-  pub rounds_more : {s' : Words} → t + 8 ≤ length k → t + 8 ≤ length w → s' ≡ rounds (take (t + 8 - t) (drop t k)) (take (t + 8 - t) (drop t w)) s
-      → rounds (drop t k) (drop t w) s ≡ last → rounds (drop (t + 8) k) (drop (t + 8) w) s' ≡ last
-  rounds_more hk hw e p =
-      let n : t + 8 - t ≡ 8 = omega arith in
-      let f = rounds_append (take 8 (drop t k)) (drop 8 (drop t k)) (take 8 (drop t w)) (drop 8 (drop t w)) s (eight k hk ∙ sym (eight w hw)) in
-      let a = take-append-drop 8 (drop t k) in
-      let b = take-append-drop 8 (drop t w) in
-      let c = drop-drop 8 t k in
-      let d = drop-drop 8 t w in
-      cc
-    where
-      eight : (l : List ℕ) → t + 8 ≤ length l → length (take 8 (drop t l)) ≡ 8
-      eight l h = length-take-le 8 (drop t l) (omega (arith, length-drop t l))
+-- the rounds on two lists are those on what is taken off the front of each, and then those on what is left
+module _ (k k' w w' : List ℕ) (s : Words) {ks ws : List ℕ} {s' last : Words} where
+  pub rounds_next : ks ≡ k ++ k' → ws ≡ w ++ w' → length k ≡ length w → s' ≡ rounds k w s → rounds ks ws s ≡ last → rounds k' w' s' ≡ last
+  rounds_next e f h r p = let a = rounds_append k k' w w' s h in cc
 
-  pub rounds_done : length k ≤ t → rounds (drop t k) (drop t w) s ≡ last → s ≡ last
-  unfolding rounds
-  rounds_done h p = sym (ap (λ (l : List ℕ). rounds l (drop t w) s) (drop_of_length-le k h)) ∙ p
+-- on no constants there is no round
+pub rounds_none : (k w : List ℕ) (s : Words) {last : Words} → length k ≡ 0 → rounds k w s ≡ last → s ≡ last
+unfolding rounds
+rounds_none [] w s h p = p
+rounds_none (a ∷ k) w s h p = absurd (omega arith)

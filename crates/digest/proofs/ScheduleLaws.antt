@@ -23,5 +23,5 @@ module _ (w b : List ℕ) (t : ℕ) where
       take_set w t (t + 1) x (add-one t) l ∙ ap (λ (y : ℕ). take t w ++ (y ∷ [])) (e ∙ sym (next_take w t h))
       ∙ ap₂ with_next p f ∙ ap (λ (k : ℕ). schedule_to k b) (sym n)
 
-  pub schedule_done : {m : List ℕ} → t ≡ 64 → length w ≡ 64 → b ≡ m → take t w ≡ schedule_to (t - 16) b → w ≡ schedule m
-  schedule_done e h q p = sym (take_all t w (omega arith)) ∙ p ∙ ap₂ (λ (k : ℕ) (l : List ℕ). schedule_to (k - 16) l) e q
+  pub schedule_done : t ≡ 64 → length w ≡ 64 → take t w ≡ schedule_to (t - 16) b → w ≡ schedule b
+  schedule_done e h p = sym (take_all t w (omega arith)) ∙ p ∙ ap (λ (k : ℕ). schedule_to (k - 16) b) e

@@ -13,14 +13,14 @@ use rules::{Device, Fields, Reply, Status, TempKey};
 pub fn uses_temp_key(f: Fields) -> bool
     ensures { result ≡ uses_temp_key f }
 {
-    (f.param1 % 2 == 1) | (f.param1 / 2 % 2 == 1)
+    config::param1_bit(0, f) || config::param1_bit(1, f)
 }
 
 // Bit 1 clear draws on the key.
 pub fn draws_key(f: Fields) -> bool
     ensures { result ≡ draws_key f }
 {
-    f.param1 / 2 % 2 != 1
+    !config::param1_bit(1, f)
 }
 
 // The first 32 bytes of the message: TempKey or the slot.
@@ -28,9 +28,8 @@ pub fn draws_key(f: Fields) -> bool
 pub fn first_row(d: Device, f: Fields) -> [u8; 32]
     ensures { result ≡ first_row d f }
 {
-    let t = d.tempKey;
-    if f.param1 / 2 % 2 == 1 {
-        t.bytes
+    if config::param1_bit(1, f) {
+        d.tempKey.bytes
     } else {
         rows::slot_bytes(d, config::key_of(f))
     }
@@ -41,76 +40,66 @@ pub fn first_row(d: Device, f: Fields) -> [u8; 32]
 pub fn second_row(d: Device, f: Fields, sent: [u8; 32]) -> [u8; 32]
     ensures { result ≡ second_row d f sent }
 {
-    let t = d.tempKey;
-    if f.param1 % 2 == 1 { t.bytes } else { sent }
+    if config::param1_bit(0, f) {
+        d.tempKey.bytes
+    } else {
+        sent
+    }
 }
 
 // ---- MAC
 
+#[tactic(auto, using(rules::proofs::Masks::mac_mask), unfolding(rules::specs::Mac::mac_shape))]
 fn mac_shape(f: Fields, input: &[u8]) -> bool
     ensures { result ≡ mac_shape f input.now }
 {
-    let named = config::only_bits(0x77, f.param1);
-    if f.param1 % 2 == 1 {
-        named & (input.len() == 0)
-    } else {
-        named & (input.len() == 32)
-    }
+    let due = if config::param1_bit(0, f) { 0 } else { 32 };
+    config::only_bits(0x77, f.param1) && input.len() == due
 }
 
+#[tactic(auto, unfolding(rules::specs::Mac::mac_temp_key))]
 fn mac_temp_key(t: TempKey, f: Fields) -> bool
     ensures { result ≡ mac_temp_key t f }
 {
-    let bit2 = f.param1 / 4 % 2 == 1;
-    if uses_temp_key(f) {
-        t.valid & !t.checkFlag & (t.sourceFlag == bit2)
-    } else {
-        true
-    }
+    !uses_temp_key(f) || (t.valid && !t.checkFlag && t.sourceFlag == config::param1_bit(2, f))
 }
 
+#[tactic(auto, unfolding(rules::specs::Mac::mac_slot))]
 fn mac_slot(c: [u8; 88], f: Fields) -> bool
     ensures { result ≡ mac_slot c f }
 {
     let k = config::key_of(f);
-    if draws_key(f) {
-        !config::slot_bit(4, c, k) & uses::use_left(c, k)
-    } else {
-        true
-    }
+    !draws_key(f) || (!config::slot_bit(4, c, k) && uses::use_left(c, k))
 }
 
+#[tactic(auto, unfolding(rules::specs::Mac::mac_free))]
 fn mac_free(d: Device, f: Fields) -> bool
     ensures { result ≡ mac_free d f }
 {
-    let c = d.config;
-    let t = d.tempKey;
-    config::both_locked(c) & mac_temp_key(t, f) & mac_slot(c, f)
+    config::both_locked(d.config) && mac_temp_key(d.tempKey, f) && mac_slot(d.config, f)
 }
 
+#[tactic(auto, using(rows::proofs::Row::row_all), unfolding(rules::specs::Mac::mac_digest, rules::specs::Mac::mac_shape, rules::specs::Mac::second_row))]
 fn mac_digest(d: Device, f: Fields, input: &[u8]) -> [u8; 32]
     requires { mac_shape f input.now ≡ true }
     ensures { result ≡ mac_digest d f input.now }
 {
     let first = first_row(d, f);
     let second = second_row(d, f, rows::row_of(input, 0, 32));
-    let otp = d.otp;
-    let c = d.config;
-    messages::mac_digest(first, second, f, otp, c)
+    messages::mac_digest(first, second, f, d.otp, d.config)
 }
 
+#[tactic(auto, unfolding(rules::specs::Mac::mac, rules::specs::Mac::key_spent))]
 pub fn mac(d: Device, f: Fields, input: &[u8]) -> Reply
     ensures { result ≡ reply (settle (mac d f input.now)) d }
 {
-    if mac_shape(f, input) {
-        if mac_free(d, f) {
-            let answer = mac_digest(d, f, input);
-            let spent = uses::spend_use(d, config::key_of(f), draws_key(f));
-            replies::ended(spent, 32, answer)
-        } else {
-            replies::said(d, Status::Refused)
-        }
-    } else {
-        replies::said(d, Status::BadShape)
+    if !mac_shape(f, input) {
+        return replies::said(d, Status::BadShape);
     }
+    if !mac_free(d, f) {
+        return replies::said(d, Status::Refused);
+    }
+    let answer = mac_digest(d, f, input);
+    let spent = uses::spend_use(d, config::key_of(f), draws_key(f));
+    replies::ended(spent, 32, answer)
 }

@@ -1,6 +1,7 @@
 -- The public functions of crate `config`.
 use Rattle.config.proofs.key_of.Reads as key_of
 use Rattle.config.proofs.only_bits.Reads as only-bits
+use Rattle.config.proofs.param1_bit.Reads as param1-bit
 use Rattle.config.proofs.slot_bit.Reads as slot-bit
 use Rattle.config.proofs.write_key.Reads as write-key
 use Rattle.config.proofs.read_key.Reads as read-key
@@ -15,6 +16,9 @@ key_of_fixed = fixed
 
 pub only_bits_fixed : Fixed only-bits.Pre only-bits.Post
 only_bits_fixed = fixed
+
+pub param1_bit_fixed : Fixed param1-bit.Pre param1-bit.Post
+param1_bit_fixed = fixed
 
 pub slot_bit_fixed : Fixed slot-bit.Pre slot-bit.Post
 slot_bit_fixed = fixed

@@ -1,4 +1,4 @@
-// The fields of a record, as parts of the input.
+// The fields of a record, as parts of the input from a place on, as the definitions name them (`image_at`, `block_at`, `random_at`).
 ghost use Rattle.std.specs.Prelude.{◌≡◌, take, drop};
 ghost use Rattle.records.specs.Records.{image_at, block_at, random_at};
 
@@ -6,20 +6,14 @@ ghost use Rattle.records.specs.Records.{image_at, block_at, random_at};
 pub(crate) fn from(s: &[u8], at: usize) -> &[u8]
     ensures { result.now ≡ drop at s.now }
 {
-    if s.len() < at {
-        return &s[0..0];
-    }
-    &s[at..]
+    s.get(at..).unwrap_or(&[])
 }
 
 // The first n bytes of a slice, or all of them.
 fn front(s: &[u8], n: usize) -> &[u8]
     ensures { result.now ≡ take n s.now }
 {
-    if s.len() < n {
-        return s;
-    }
-    &s[0..n]
+    s.get(..n).unwrap_or(s)
 }
 
 // The 664 bytes of an EE record.

@@ -1,15 +1,15 @@
 // The bench program's records, as functions on slices; its lines are in `lines`.
 #![tactic(auto)]
 
-ghost use Rattle.std.specs.Prelude.{◌≡◌, ◌∷◌, [], take};
-ghost use Rattle.rules.specs.Words.{equal, byte};
-ghost use Rattle.records.specs.Records.{announced, uncut, first, length_of, record_at};
+ghost use Rattle.std.specs.Prelude.{◌≡◌};
+ghost use Rattle.records.specs.Records.{announced, uncut, length_of, record_at};
 
 pub mod fields;
 pub mod lines;
 
-// What stands at an offset of the input.
-#[derive(Clone, Copy)]
+// What stands at an offset of the input. `Bad` is a case and no Option: `record_at`, `length_of` and `line_of` name it, and it
+// has a line of its own.
+#[derive(Clone, Copy, PartialEq, Eq)]
 pub enum Record {
     Image,
     Wake,
@@ -21,41 +21,19 @@ pub enum Record {
     Bad,
 }
 
-fn is_marked(rest: &[u8], a: u8, b: u8) -> bool
-    ensures { result ≡ equal (take 2 rest.now) (a ∷ b ∷ []) }
-{
-    if rest.len() < 2 {
-        return false;
-    }
-    (rest[0] == a) & (rest[1] == b)
-}
-
-// The length byte of a BK record; 0 where it is cut off.
-fn length_byte(rest: &[u8]) -> u8
-    ensures { result ≡ byte 2 rest.now }
-{
-    if 2 < rest.len() { rest[2] } else { 0 }
-}
-
+#[tactic(auto, using(crate::proofs::Marks::marks), unfolding(crate::specs::Records::announced))]
 fn announced_by(rest: &[u8]) -> Record
     ensures { result ≡ announced rest.now }
 {
-    if is_marked(rest, b'E', b'E') {
-        return Record::Image;
+    match rest {
+        [b'E', b'E', ..] => Record::Image,
+        [b'W', b'K', ..] => Record::Wake,
+        [b'I', b'D', ..] => Record::Idle,
+        [b'S', b'L', ..] => Record::Sleep,
+        // 0 for the length byte where it is cut off
+        [b'B', b'K', ..] => Record::Block(rest.get(2).copied().unwrap_or(0)),
+        _ => Record::Bad,
     }
-    if is_marked(rest, b'W', b'K') {
-        return Record::Wake;
-    }
-    if is_marked(rest, b'I', b'D') {
-        return Record::Idle;
-    }
-    if is_marked(rest, b'S', b'L') {
-        return Record::Sleep;
-    }
-    if is_marked(rest, b'B', b'K') {
-        return Record::Block(length_byte(rest));
-    }
-    Record::Bad
 }
 
 // How many bytes a record takes.
@@ -64,14 +42,13 @@ pub fn length_of(what: Record) -> usize
 {
     match what {
         Record::Image => 2 + 664,
-        Record::Wake => 2,
-        Record::Idle => 2,
-        Record::Sleep => 2,
+        Record::Wake | Record::Idle | Record::Sleep => 2,
         Record::Block(n) => 2 + 1 + n as usize + 32,
         Record::Bad => 0,
     }
 }
 
+#[tactic(auto, unfolding(crate::specs::Records::uncut))]
 fn uncut_at_front(rest: &[u8]) -> Record
     ensures { result ≡ uncut rest.now }
 {
@@ -82,25 +59,15 @@ fn uncut_at_front(rest: &[u8]) -> Record
     what
 }
 
-fn first_of(what: Record) -> Record
-    ensures { result ≡ first what }
-{
-    match what {
-        Record::Image => Record::Image,
-        Record::Wake => Record::Bad,
-        Record::Idle => Record::Bad,
-        Record::Sleep => Record::Bad,
-        Record::Block(_) => Record::Bad,
-        Record::Bad => Record::Bad,
-    }
-}
-
 // The record at an offset of the input; Bad where there is none.
+#[tactic(auto, unfolding(crate::specs::Records::record_at))]
 pub fn record_at(input: &[u8], at: usize) -> Record
     ensures { result ≡ record_at input.now at }
 {
-    if at == 0 {
-        return first_of(uncut_at_front(input));
+    let what = uncut_at_front(fields::from(input, at));
+    if at == 0 && what != Record::Image {
+        Record::Bad
+    } else {
+        what
     }
-    uncut_at_front(fields::from(input, at))
 }

@@ -1,28 +1,13 @@
-// The bench program's lines, each put at a position of a lent output.
-ghost use Rattle.std.specs.Prelude.{◌≡◌, ◌++◌, ◌+◌, ◌*◌, ◌≤◌, ◌<◌, length};
-ghost use Rattle.std.proofs.lemmas.List.Edits.{sets};
+// The bench program's lines, each put at a position of a lent output. Printed by hand, since a line that does not fit leaves the
+// output as it was (`put_output`): `write!` into lent bytes would leave a part of it there, and a String needs a heap.
+ghost use Rattle.std.specs.Prelude.{◌≡◌, ◌++◌, ◌*◌, ◌<◌, length};
 ghost use Rattle.records.specs.Records.{ascii, hex_digit, hex, zeros_in_front, decimal, event_line, line_of, too_long, put_length, put_output};
-ghost use Rattle.records.specs.Records.{digit as decimal_digit, is_answered};
+ghost use Rattle.records.specs.Records.{digit as decimal_digit};
 
 use crate::Record;
 use rules::Number;
 
-// Bytes stored from a position on; the position after them.
-fn copy(out: &mut [u8], at: usize, s: &[u8]) -> usize
-    requires { at + length s.now ≤ length out.old }
-    ensures value { result ≡ at + length s.now }
-    ensures out_after { out.new ≡ sets out.old at s.now }
-{
-    let mut to = at;
-    let mut i: usize = 0;
-    while i < s.len() {
-        out[to] = s[i];
-        to += 1;
-        i += 1;
-    }
-    to
-}
-
+#[tactic(auto, using(std::proofs::lemmas::Bool::Decides::nat_tests))]
 fn hex_digit(d: u8) -> u8
     requires { d < 16 }
     ensures { result ≡ hex_digit d }
@@ -30,83 +15,57 @@ fn hex_digit(d: u8) -> u8
     if d < 10 { b'0' + d } else { b'A' + (d - 10) }
 }
 
-// Bytes in upper-case hex stored from a position on; the position after them.
-fn copy_hex(out: &mut [u8], at: usize, s: &[u8]) -> usize
-    requires { at + 2 * length s.now ≤ length out.old }
-    ensures value { result ≡ at + 2 * length s.now }
-    ensures out_after { out.new ≡ sets out.old at (hex s.now) }
+// Bytes in upper-case hex, over an output that has just their room. Tried, for the index 2 * i: `out.chunks_exact_mut(2).zip(s)`.
+// The proof did not close: the library says nothing of what the slice ends as.
+fn put_hex(out: &mut [u8], s: &[u8])
+    requires { length out.old ≡ 2 * length s.now }
+    ensures { out.new ≡ hex s.now }
 {
-    let mut to = at;
-    let mut i: usize = 0;
-    while i < s.len() {
-        out[to] = hex_digit(s[i] / 16);
-        out[to + 1] = hex_digit(s[i] % 16);
-        to += 2;
-        i += 1;
+    for (i, b) in s.iter().enumerate() {
+        out[2 * i] = hex_digit(b / 16);
+        out[2 * i + 1] = hex_digit(b % 16);
     }
-    to
 }
 
-// A line of two parts; nothing where it does not fit.
-fn put_text(out: &mut [u8], at: usize, a: &[u8], b: &[u8]) -> usize
-    ensures value { result ≡ put_length out.old at (a.now ++ b.now) }
-    ensures out_after { out.new ≡ put_output out.old at (a.now ++ b.now) }
+// A line of two parts at the front of the room; nothing where it does not fit. The count of bytes put is 0 then and no None, as
+// `put_length` says in the promises of `put_line` and `put_too_long`, and bench adds the counts.
+fn put_text(room: &mut [u8], a: &[u8], b: &[u8]) -> usize
+    ensures value { result ≡ put_length room.old 0 (a.now ++ b.now) }
+    ensures out_after { room.new ≡ put_output room.old 0 (a.now ++ b.now) }
 {
-    if out.len() < at {
+    if room.len() < a.len() || room.len() - a.len() < b.len() {
         return 0;
     }
-    if out.len() - at < a.len() {
-        return 0;
-    }
-    if out.len() - at - a.len() < b.len() {
-        return 0;
-    }
-    let next = copy(out, at, a);
-    let end = copy(out, next, b);
-    end - at
+    let end = a.len() + b.len();
+    room[..a.len()].copy_from_slice(a);
+    room[a.len()..end].copy_from_slice(b);
+    end
 }
 
 // A name, an answer in hex and a line feed; nothing where they do not fit.
-fn put_answer(out: &mut [u8], at: usize, name: &[u8], answer: &[u8]) -> usize
-    ensures value { result ≡ put_length out.old at (name.now ++ (hex answer.now ++ ascii "\n")) }
-    ensures out_after { out.new ≡ put_output out.old at (name.now ++ (hex answer.now ++ ascii "\n")) }
+fn put_answer(room: &mut [u8], name: &[u8], answer: &[u8]) -> usize
+    ensures value { result ≡ put_length room.old 0 (name.now ++ (hex answer.now ++ ascii "\n")) }
+    ensures out_after { room.new ≡ put_output room.old 0 (name.now ++ (hex answer.now ++ ascii "\n")) }
 {
-    if out.len() <= at {
+    if room.len() <= name.len() || (room.len() - name.len() - 1) / 2 < answer.len() {
         return 0;
     }
-    let room = out.len() - at - 1;
-    if room < name.len() {
-        return 0;
-    }
-    if (room - name.len()) / 2 < answer.len() {
-        return 0;
-    }
-    let next = copy(out, at, name);
-    let end = copy_hex(out, next, answer);
-    out[end] = b'\n';
-    end + 1 - at
+    let end = name.len() + 2 * answer.len();
+    room[..name.len()].copy_from_slice(name);
+    put_hex(&mut room[name.len()..end], answer);
+    room[end] = b'\n';
+    end + 1
 }
 
-fn is_answered(number: Number) -> bool
-    ensures { result ≡ is_answered number }
+#[tactic(auto, unfolding(crate::specs::Records::event_line))]
+fn put_event(room: &mut [u8], name: &[u8], number: Number, answer: &[u8]) -> usize
+    ensures value { result ≡ put_length room.old 0 (event_line name.now number answer.now) }
+    ensures out_after { room.new ≡ put_output room.old 0 (event_line name.now number answer.now) }
 {
-    match number {
-        Number::Answered => true,
-        Number::ShortOutput => false,
-        Number::WrongRandom => false,
-        Number::NoAnswer => false,
-        Number::WrongImage => false,
-    }
-}
-
-fn put_event(out: &mut [u8], at: usize, name: &[u8], number: Number, answer: &[u8]) -> usize
-    ensures value { result ≡ put_length out.old at (event_line name.now number answer.now) }
-    ensures out_after { out.new ≡ put_output out.old at (event_line name.now number answer.now) }
-{
-    if is_answered(number) {
-        put_answer(out, at, name, answer)
+    if number == Number::Answered {
+        put_answer(room, name, answer)
     } else {
-        put_text(out, at, name, b"none\n")
+        put_text(room, name, b"none\n")
     }
 }
 
@@ -119,24 +78,18 @@ fn digit(n: u16) -> u8
 fn zeros_in_front(n: u16) -> usize
     ensures { result ≡ zeros_in_front n }
 {
-    if n < 10 {
-        return 4;
+    match n {
+        0..=9 => 4,
+        10..=99 => 3,
+        100..=999 => 2,
+        1000..=9999 => 1,
+        _ => 0,
     }
-    if n < 100 {
-        return 3;
-    }
-    if n < 1000 {
-        return 2;
-    }
-    if n < 10000 {
-        return 1;
-    }
-    0
 }
 
-fn put_bad(out: &mut [u8], at: usize, offset: u16) -> usize
-    ensures value { result ≡ put_length out.old at (ascii "bad " ++ (decimal offset ++ ascii "\n")) }
-    ensures out_after { out.new ≡ put_output out.old at (ascii "bad " ++ (decimal offset ++ ascii "\n")) }
+fn put_bad(room: &mut [u8], offset: u16) -> usize
+    ensures value { result ≡ put_length room.old 0 (ascii "bad " ++ (decimal offset ++ ascii "\n")) }
+    ensures out_after { room.new ≡ put_output room.old 0 (ascii "bad " ++ (decimal offset ++ ascii "\n")) }
 {
     let digits = [
         digit(offset / 10000),
@@ -146,11 +99,27 @@ fn put_bad(out: &mut [u8], at: usize, offset: u16) -> usize
         digit(offset),
         b'\n',
     ];
-    let from = zeros_in_front(offset);
-    put_text(out, at, b"bad ", &digits[from..6])
+    put_text(room, b"bad ", &digits[zeros_in_front(offset)..])
 }
 
-// The line of a record at an offset, whose event had this number and this answer; its length. Nothing, and 0, where it does not fit.
+// The line of a record, at the front of the room.
+fn put_record(room: &mut [u8], what: Record, offset: u16, number: Number, answer: &[u8]) -> usize
+    ensures value { result ≡ put_length room.old 0 (line_of what offset number answer.now) }
+    ensures out_after { room.new ≡ put_output room.old 0 (line_of what offset number answer.now) }
+{
+    match what {
+        Record::Image => put_text(room, b"image\n", b""),
+        Record::Wake => put_event(room, b"wake ", number, answer),
+        Record::Idle => put_event(room, b"idle ", number, answer),
+        Record::Sleep => put_event(room, b"sleep ", number, answer),
+        Record::Block(_) => put_event(room, b"block ", number, answer),
+        Record::Bad => put_bad(room, offset),
+    }
+}
+
+// The line of a record at an offset, whose event had this number and this answer; its length. Nothing, and 0, where it does
+// not fit.
+// A place beside an output, as in `put_too_long`: their promises have it so (`put_length`).
 pub fn put_line(
     out: &mut [u8],
     at: usize,
@@ -162,19 +131,15 @@ pub fn put_line(
     ensures value { result ≡ put_length out.old at (line_of what offset number answer.now) }
     ensures out_after { out.new ≡ put_output out.old at (line_of what offset number answer.now) }
 {
-    match what {
-        Record::Image => put_text(out, at, b"image\n", b""),
-        Record::Wake => put_event(out, at, b"wake ", number, answer),
-        Record::Idle => put_event(out, at, b"idle ", number, answer),
-        Record::Sleep => put_event(out, at, b"sleep ", number, answer),
-        Record::Block(_) => put_event(out, at, b"block ", number, answer),
-        Record::Bad => put_bad(out, at, offset),
-    }
+    // what is left from the position on
+    let from = at.min(out.len());
+    put_record(&mut out[from..], what, offset, number, answer)
 }
 
 pub fn put_too_long(out: &mut [u8], at: usize) -> usize
     ensures value { result ≡ put_length out.old at too_long }
     ensures out_after { out.new ≡ put_output out.old at too_long }
 {
-    put_text(out, at, b"too long\n", b"")
+    let from = at.min(out.len());
+    put_text(&mut out[from..], b"too long\n", b"")
 }

@@ -1,6 +1,7 @@
--- A row of 32 bytes: what it is where all its bytes are there, and how a loop fills it.
+-- A row of 32 bytes: what it is where all its bytes are there, and how a loop fills it; equal rows.
 use Prim.Native.Nat.{ℕ, zero, suc, ◌+◌, ◌-◌, min, ◌≤◌, ◌<◌}
-use mathlib.Core.Path.{◌≡◌, sym, ap, ◌∙◌}
+use mathlib.Core.Bool.{◌&&◌}
+use mathlib.Core.Path.{◌≡◌, refl, sym, ap, ◌∙◌}
 use mathlib.Core.List.{List, [], ◌∷◌, ◌++◌, append-nil}
 use native.Mathlib.Omega.{arith}
 use native.Mathlib.Numerals.{add-one}
@@ -9,8 +10,11 @@ use lib.ListN.{length, get_or, take, drop, set, length-take, length-drop}
 use lib.Seq.{take_all, take_at, take-take, get_or-drop, paste, paste-suc}
 use borrow.Author.Tests.{ltb-true, ltb-false}
 use Rattle.wire.proofs.Cases.{if_all}
-use Rattle.rules.specs.Words.{◌under◌, zeros}
-use Rattle.rules.proofs.Rows.{length_part, take_zeros, drop_zeros}
+use Rattle.std.proofs.Common.{nat_eq}
+use Rattle.std.proofs.lemmas.List.{take-replicate, drop-replicate}
+use Rattle.std.specs.Cmp.Lexicographic.{pointwise}
+use Rattle.rules.specs.Words.{◌is◌, ◌under◌, equal, zeros}
+use Rattle.rules.proofs.Rows.{length_part}
 use Rattle.rows.specs.Row.{row, fitting}
 
 -- as many as fit: the smaller of what is asked and what is left
@@ -24,7 +28,7 @@ fitting_min len at n =
 -- filled up with zeros to k
 filled : (k m : ℕ) (x : List ℕ) → k ≤ m → take k (x ++ zeros m) ≡ take k x ++ zeros (k - length x)
 filled zero m x h = let e : 0 - length x ≡ 0 = omega arith in rw e
-filled (suc k) m [] h = let e : suc k - 0 ≡ suc k = omega arith in rw e (take_zeros (suc k) m h)
+filled (suc k) m [] h = let e : suc k - 0 ≡ suc k = omega arith in rw e (take-replicate (suc k) m 0 h)
 filled (suc k) m (b ∷ bs) h =
     let e : suc k - suc (length bs) ≡ k - length bs = omega arith in
     rw e (ap (λ (l : List ℕ). b ∷ l) (filled k m bs (omega arith)))
@@ -70,5 +74,13 @@ pub row_copied : (l : List ℕ) (at n i : ℕ) → i ≡ min (min n (length l - 
 row_copied l at n i e =
     let t : take 32 (take n (drop at l)) ≡ take i (drop at l) = take_both 32 n i (drop at l) (rw length-drop e) in
     let f : 32 - min n (length l - at) ≡ 32 - i = omega arith in
-    let z : drop (0 + i) (zeros 32) ≡ zeros (32 - i) = rw zero-add (drop_zeros i 32 (omega arith)) in
+    let z : drop (0 + i) (zeros 32) ≡ zeros (32 - i) = rw zero-add (drop-replicate i 32 0) in
     cc (row_filled l at n, t, f, z)
+
+-- the rules' equality of rows is that of slices
+pub equal_lists : (a b : List ℕ) → equal a b ≡ pointwise nat_eq a b
+unfolding equal
+equal_lists [] [] = refl
+equal_lists [] (y ∷ ys) = refl
+equal_lists (x ∷ xs) [] = refl
+equal_lists (x ∷ xs) (y ∷ ys) = ap (λ t. x is y && t) (equal_lists xs ys)

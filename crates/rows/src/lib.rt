@@ -9,31 +9,28 @@ ghost use Rattle.rows.specs.Row.{fitting, row};
 use rules::{Device, Slot};
 
 // How many of n bytes stand in a zone of `len` bytes from a position on.
-#[tactic(auto, unfolding(crate::specs::Row::fitting))]
+#[tactic(auto, using(crate::proofs::Row::fitting_min))]
 pub fn room(len: usize, at: usize, n: usize) -> usize
     ensures { result ≡ fitting len at n }
 {
-    if len <= at {
-        return 0;
-    }
-    if n < len - at { n } else { len - at }
+    n.min(len.saturating_sub(at))
 }
 
-// The n bytes of a slice from a position on, as many as there are, filled up with zeros to 32.
+// The n bytes of a slice from a position on, as many as there are, filled up with zeros to 32; a position beside a slice, since its
+// promise has it so (`row`).
 pub fn row_of(s: &[u8], at: usize, n: usize) -> [u8; 32]
     ensures { result ≡ row s.now at n }
 {
-    let there = room(s.len(), at, n);
-    let count = room(32, 0, there);
+    let count = room(s.len(), at, n).min(32);
     let mut b = [0u8; 32];
-    let mut i: usize = 0;
-    while i < count {
+    // tried copy_from_slice: slower, a read or a write of a slot takes some 6 % longer
+    for i in 0..count {
         b[i] = s[at + i];
-        i += 1;
     }
     b
 }
 
+#[tactic(auto, using(crate::proofs::Row::row_whole), unfolding(rules::specs::State::slot_bytes))]
 pub fn slot_bytes(d: Device, k: Slot) -> [u8; 32]
     ensures { result ≡ slot_bytes d k }
 {
@@ -41,30 +38,17 @@ pub fn slot_bytes(d: Device, k: Slot) -> [u8; 32]
     row_of(&d.data, at, 32)
 }
 
+// A function, and no `==` at each call, since docs/PROMISES.md names its promise.
+#[tactic(auto, using(crate::proofs::Row::equal_lists))]
 pub fn equal_rows(a: &[u8], b: &[u8]) -> bool
     ensures { result ≡ equal a.now b.now }
 {
-    if a.len() != b.len() {
-        return false;
-    }
-    let mut i: usize = 0;
-    while i < a.len() {
-        if a[i] != b[i] {
-            return false;
-        }
-        i += 1;
-    }
-    true
+    a == b
 }
 
+// Its twin is write's `and_row`: a function over the operation would be no plainer than the line that each is.
 pub fn xor_row(a: [u8; 32], b: [u8; 32]) -> [u8; 32]
     ensures { result ≡ xor_row a b }
 {
-    let mut r = [0u8; 32];
-    let mut i: usize = 0;
-    while i < 32 {
-        r[i] = a[i] ^ b[i];
-        i += 1;
-    }
-    r
+    std::array::from_fn(|i| a[i] ^ b[i])
 }

@@ -1,13 +1,15 @@
--- Bytes stored one after the other, upwards in a zone: one byte at a time, and all at once; a zone filled whole; stores behind others.
-use Prim.Native.Nat.{ℕ, ◌+◌, ◌-◌, min, ◌≤◌, ◌<◌}
-use mathlib.Core.Path.{◌≡◌, refl, sym, ap, ◌∙◌}
+-- Bytes stored one after the other, upwards in a zone: as one change of it, as a row laid over it; stores behind others.
+use Prim.Native.Nat.{ℕ, zero, suc, ◌+◌, ◌-◌, min, ◌≤◌, ◌<◌}
+use mathlib.Core.Path.{◌≡◌, refl, sym, ◌∙◌}
 use mathlib.Core.Logic.{⊎_elim}
-use mathlib.Core.List.{List, [], ◌∷◌, ◌++◌, append-nil}
+use mathlib.Core.List.{List, [], ◌∷◌, ◌++◌, append_assoc}
 use native.Mathlib.Omega.{arith}
 use native.Mathlib.Nat.{eq-or-lt_of_le}
 use native.Mathlib.Numerals.{add-one}
-use lib.ListN.{length, get_or, drop, set, drop_of_length-le}
-use lib.Seq.{drop-cons, set_out, sets, sets-eq}
+use lib.ListN.{length, take, drop, set, length-set, length-take}
+use borrow.Rule.Slice.PartMut.{put_mid}
+use Rattle.std.proofs.lemmas.List.{drop-drop}
+use lib.Seq.{set_out, sets, sets-eq}
 use Rattle.rules.specs.declared.Device.{Device}
 use Rattle.rules.specs.Plan.{Store, in_config, in_otp, in_data, store, store_all, upwards}
 
@@ -60,29 +62,6 @@ data_zone = record {
 }
 
 module _ (z : Zone) where
-  -- a turn of a loop that stores a row: its i-th byte is stored, and the rest is left
-  pub stored_more : (d : Device) (at : ℕ) (l : List ℕ) (i : ℕ) → i < length l
-      → store_all d (upwards z.at (at + i) (drop i l))
-      ≡ store_all (store d (z.at (at + i) (get_or l i 0))) (upwards z.at (at + (i + 1)) (drop (i + 1) l))
-  stored_more d at l i h =
-      let e : at + i + 1 ≡ at + (i + 1) = omega arith in
-      rw (drop-cons l i 0 h, e, add-one i)
-
-  beyond : (l : List ℕ) (d : Device) (p : ℕ) → length (z.get d) ≤ p → store_all d (upwards z.at p l) ≡ d
-  beyond [] d p h = refl
-  beyond (b ∷ bs) d p h =
-      let e : store d (z.at p b) ≡ d = rw (z.stores d p b, set_out (z.get d) p b h) (z.kept d) in
-      ap (λ (x : Device). store_all x (upwards z.at (p + 1) bs)) e ∙ beyond bs d (p + 1) (omega arith)
-
-  -- the end of such a loop: what is left of the row lies beyond the zone
-  pub stored_end : (d : Device) (at : ℕ) (l : List ℕ) (i : ℕ) → i ≡ min (length l) (length (z.get d) - at)
-      → store_all d (upwards z.at (at + i) (drop i l)) ≡ d
-  stored_end d at l i e =
-      let h : i ≤ length l = omega arith in
-      ⊎_elim (λ (n : i ≡ length l). let k : length l ≤ i = omega arith in rw (drop_of_length-le l k))
-      (λ (n : i < length l). beyond (drop i l) d (at + i) (omega arith))
-      (eq-or-lt_of_le h)
-
   -- the stores of a row are one change of the zone
   pub stored_sets : (l : List ℕ) (d : Device) (p : ℕ) → store_all d (upwards z.at p l) ≡ z.put (sets (z.get d) p l) d
   stored_sets [] d p = sym (z.kept d)
@@ -91,14 +70,29 @@ module _ (z : Zone) where
       let e : Device = z.put l d in
       cc (z.stores d p b, stored_sets bs e (p + 1), z.got d l, add-one p, z.over d l (sets l (p + 1) bs))
 
--- ---- filled whole
+-- ---- laid over
 
-pub sets_whole : (old l : List ℕ) → length l ≡ length old → sets old 0 l ≡ l
-sets_whole old l h =
-    let fit : 0 + length l ≤ length old = omega arith in
-    let gone : length old ≤ 0 + length l = omega arith in
-    sets-eq l old 0 fit ∙ rw (drop_of_length-le old gone) (append-nil l)
+-- from a zone's end on nothing is stored
+past : (r l : List ℕ) (i : ℕ) → length l ≤ i → sets l i r ≡ l
+past [] l i h = refl
+past (b ∷ bs) l i h = rw (set_out l i b h) (past bs l (suc i) (omega arith))
 
--- a zone filled whole by stores from its first byte on holds just those bytes
-pub stored_whole : (z : Zone) (d : Device) (l : List ℕ) → length l ≡ length (z.get d) → store_all d (upwards z.at 0 l) ≡ z.put l d
-stored_whole z d l h = stored_sets z l d 0 ∙ ap (λ (x : List ℕ). z.put x d) (sets_whole (z.get d) l h)
+-- the bytes that do not fit change nothing
+fitting_sets : (r l : List ℕ) (i n : ℕ) → n ≡ min (length r) (length l - i) → sets l i (take n r) ≡ sets l i r
+fitting_sets [] l i zero h = refl
+fitting_sets [] l i (suc n) h = refl
+fitting_sets (b ∷ bs) l i zero h = sym (past (b ∷ bs) l i (omega arith))
+fitting_sets (b ∷ bs) l i (suc n) h = fitting_sets bs (set l i b) (suc i) n (rw length-set (omega arith))
+
+-- as many bytes of a row as fit, copied over a part of a zone, are all its bytes stored upwards
+pub laid : (l r y : List ℕ) (at m n k : ℕ) → m ≡ min at (length l) → n ≡ min (length r) (length l - at) → k ≡ n → y ≡ take n r
+    → put_mid m k l y ≡ sets l at r
+laid l r y at m n k em en ek ey =
+    let t : List ℕ = take n r in
+    let lt : length t ≡ n = simp length-take (omega arith) in
+    let e : sets l m t ≡ take m l ++ t ++ drop (m + length t) l = sets-eq t l m (omega arith) in
+    let p : put_mid m k l y ≡ sets l m t = rw (e, ey, ek, lt, drop-drop, append_assoc) in
+    let le : m ≤ at = omega arith in
+    let q : sets l m t ≡ sets l at t =
+    ⊎_elim (λ (h : m ≡ at). rw h) (λ (h : m < at). let z : n ≡ 0 = omega arith in rw z) (eq-or-lt_of_le le) in
+    p ∙ q ∙ fitting_sets r l at n en

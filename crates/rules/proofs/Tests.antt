@@ -1,12 +1,11 @@
--- Tests: both halves of an `&&` or an `||`, an `iff` that holds, a `⇒` with one half known, a bound by cases, a bit that is not there, and the
--- tests that a branch gives.
+-- Tests: both halves of an `&&` or an `||`, an `iff` that holds, a `⇒` with one half known, a bound by cases, a bit that is not
+-- there.
 use Rattle.std.specs.Prelude.{if◌then◌else◌}
 use Prim.Native.Nat.{ℕ, ◌^◌, ◌≤◌, ◌<◌}
 use mathlib.Core.Path.{◌≡◌, refl, sym, ◌∙◌}
 use mathlib.Core.Bool.{Bool, true, false, not, ◌&&◌, ◌||◌}
 use native.Mathlib.Omega.{arith}
 use native.Mathlib.Nat.{div-eq_of_lt, lt_of_lt_of_le, pow-le-pow_right}
-use borrow.Author.Tests.{eq-eqb, ne_eqb, lt-ltb, le-ltb, le-leb, lt-leb}
 use Rattle.wire.proofs.Cases.{if_either}
 use Rattle.rules.specs.Words.{◌⇒◌, ◌iff◌, bit}
 
@@ -52,6 +51,3 @@ iff_same true true h = refl
 iff_same false false h = refl
 iff_same true false h = cc
 iff_same false true h = cc
-
--- the tests that a branch gives: `search tests` rewrites a rule's cases by them
-pub ruleset tests = (eq-eqb, ne_eqb, lt-ltb, le-ltb, le-leb, lt-leb)

@@ -6,7 +6,7 @@ ghost use Rattle.token.specs.Outcome.{fresh_of};
 use crate::Token;
 use rules::{Device, Number, Power};
 
-// A fresh state and its number.
+// A fresh state and its number. No Result: with number 4 too there is a state (`fresh_of`).
 #[derive(Clone, Copy)]
 pub struct Made {
     pub token: Token,
@@ -18,37 +18,29 @@ fn device_from(image: &[u8]) -> Device
     requires { length image.now ≡ 664 }
     ensures { result ≡ device_from image.now }
 {
-    let blank = Device {
-        config: [0u8; 88],
-        otp: [0u8; 64],
-        data: [0u8; 512],
+    Device {
+        config: *image[0..88].as_array().unwrap(),
+        otp: *image[88..152].as_array().unwrap(),
+        data: *image[152..664].as_array().unwrap(),
         tempKey: replies::emptied_key(),
-    };
-    let c = stores::store_config_row(blank, 0, &image[0..88]);
-    let o = stores::store_otp_row(c, 0, &image[88..152]);
-    stores::store_data_row(o, 0, &image[152..664])
+    }
 }
 
 // Number 4, and the 664 zeros' state, for any other length.
+#[tactic(auto, unfolding(crate::specs::Outcome::fresh_of))]
 pub fn fresh(image: &[u8]) -> Made
     ensures { result ≡ fresh_of image.now }
 {
-    if image.len() == 664 {
-        Made {
-            token: Token {
-                device: device_from(image),
-                power: Power::Asleep,
-            },
-            number: Number::Answered,
-        }
+    let (device, number) = if image.len() == 664 {
+        (device_from(image), Number::Answered)
     } else {
-        let z = [0u8; 664];
-        Made {
-            token: Token {
-                device: device_from(&z),
-                power: Power::Asleep,
-            },
-            number: Number::WrongImage,
-        }
+        (device_from(&[0; 664]), Number::WrongImage)
+    };
+    Made {
+        token: Token {
+            device,
+            power: Power::Asleep,
+        },
+        number,
     }
 }

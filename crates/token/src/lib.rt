@@ -1,8 +1,9 @@
 // The token: a fresh state from an image, the four events as methods on it, and the answer's front part.
 #![tactic(auto)]
 
-ghost use Rattle.std.specs.Prelude.{◌≡◌, true, ◌∷◌, [], ◌++◌, ◌+◌, ◌*◌, ◌≤◌, length, drop};
+ghost use Rattle.std.specs.Prelude.{◌≡◌, true, Some, None, if◌then◌else◌, ◌∷◌, [], ◌++◌, ◌≤◌, length, drop};
 ghost use Rattle.wire.specs.Wire.{frame};
+ghost use Rattle.rules.specs.declared.Number.TheVariants.{Answered};
 ghost use Rattle.rules.specs.State.{number_of, status_byte, is_awake};
 ghost use Rattle.rules.specs.Plan.{reply};
 ghost use Rattle.rules.specs.Commands.{command_of, plan_of};
@@ -20,7 +21,8 @@ pub struct Token {
     pub power: Power,
 }
 
-// What an event gives: the new state, its number and the answer's length.
+// What an event gives: the new state, its number and the answer's length. A number beside a length, and no Result:
+// document 01 hands back all three by value, and the definition `outcome` and the theorems of demands read each.
 #[derive(Clone, Copy)]
 pub struct Outcome {
     pub token: Token,
@@ -28,37 +30,32 @@ pub struct Outcome {
     pub length: usize,
 }
 
-// The document's number of a case.
+// The document's number of a case. A function of its own since its promise names it (docs/PROMISES.md).
 pub fn number_of(n: Number) -> u8
     ensures { result ≡ number_of n }
 {
-    match n {
-        Number::Answered => 0,
-        Number::ShortOutput => 1,
-        Number::WrongRandom => 2,
-        Number::NoAnswer => 3,
-        Number::WrongImage => 4,
-    }
+    n as u8
 }
 
 // The answer: the first n bytes of the lent output, and the empty part for a length beyond it.
 pub fn front(output: &[u8], n: usize) -> &[u8]
     ensures { result.now ≡ front_of n output.now }
 {
-    if output.len() < n {
-        &output[0..0]
-    } else {
-        &output[0..n]
-    }
+    output.get(..n).unwrap_or(&[])
 }
 
-fn is_awake(p: Power) -> bool
-    ensures { result ≡ is_awake p }
+// The number of an event whose buffers are not right: 1 for the output, else 2 for the random bytes. The four events
+// each begin with it: each one's promise is over its own turn, and a closure for what comes after would hand the
+// whole state on once more.
+fn refusal(random: &[u8], output: &[u8]) -> Option<Number>
+    ensures { result ≡ (if buffers_fit (length random.now) (length output.now) then None else Some (refusal (length output.now))) }
 {
-    match p {
-        Power::Asleep => false,
-        Power::Idle => false,
-        Power::Awake => true,
+    if output.len() < 35 {
+        Some(Number::ShortOutput)
+    } else if random.len() != 32 {
+        Some(Number::WrongRandom)
+    } else {
+        None
     }
 }
 
@@ -73,25 +70,21 @@ fn left(token: Token, number: Number) -> Outcome
     }
 }
 
-// Whether so many random bytes and so many bytes of output are right.
-fn buffers_fit(random: usize, output: usize) -> bool
-    ensures { result ≡ buffers_fit random output }
+// A token as an event leaves it, and an answer of so many bytes.
+fn answered(token: Token, n: usize) -> Outcome
+    ensures { result ≡ record { token = token; number = Answered; length = n } }
 {
-    (35 <= output) & (random == 32)
-}
-
-// An event whose buffers are not right: number 1 for the output, else 2 for the random bytes.
-fn refused(token: Token, output: usize) -> Outcome
-    ensures { result ≡ unchanged token (refusal output) }
-{
-    if output < 35 {
-        left(token, Number::ShortOutput)
-    } else {
-        left(token, Number::WrongRandom)
+    Outcome {
+        token,
+        number: Number::Answered,
+        length: n,
     }
 }
 
-// A command by its opcode's number.
+// A command by its opcode's number: the match that document 01 asks for. Not inlined, for else every event pays for what the
+// commands keep on the stack: a damaged block took 220 ns and not 51, a Read of four bytes 420 and not 235.
+#[tactic(auto, unfolding(rules::specs::Commands::command_of))]
+#[inline(never)]
 fn run(d: Device, opcode: u8, f: Fields, input: &[u8], random: [u8; 32]) -> Reply
     ensures { result ≡ reply (plan_of (command_of opcode) d f input.now random) d }
 {
@@ -111,37 +104,38 @@ fn run(d: Device, opcode: u8, f: Fields, input: &[u8], random: [u8; 32]) -> Repl
     }
 }
 
-fn pair(low: u8, high: u8) -> u16
-    ensures { result ≡ low + 256 * high }
-{
-    (low as u16) + 256 * (high as u16)
-}
-
 // A whole block's command.
+#[tactic(auto, using(rows::proofs::Row::row_all), unfolding(rules::specs::Events::plan_for))]
 fn run_block(d: Device, block: &[u8], random: &[u8]) -> Reply
     requires block_fits { 7 ≤ length block.now }
     requires random_length { length random.now ≡ 32 }
     ensures { result ≡ reply (plan_for d block.now random.now) d }
 {
-    let end = block.len() - 2;
     let f = Fields {
         param1: block[2],
-        param2: pair(block[3], block[4]),
+        param2: u16::from_le_bytes([block[3], block[4]]),
     };
-    run(d, block[1], f, &block[5..end], rows::row_of(random, 0, 32))
+    run(
+        d,
+        block[1],
+        f,
+        &block[5..block.len() - 2],
+        rows::row_of(random, 0, 32),
+    )
 }
 
 // A status framed at the front of the output.
+#[tactic(auto, using(wire::proofs::Laws::put_fits))]
 fn put_status(output: &mut [u8], s: Status) -> usize
     requires { 35 ≤ length output.old }
     ensures value { result ≡ 4 }
     ensures output_after { output.new ≡ frame (status_byte s ∷ []) ++ drop 4 output.old }
 {
-    let b = [replies::status_byte(s)];
-    wire::put(output, &b)
+    wire::put(output, &[replies::status_byte(s)])
 }
 
 // A block given to a token that is Awake, with buffers that are right.
+#[tactic(auto, using(wire::proofs::Laws::whole_length, rules::proofs::Answers::few_for), unfolding(crate::specs::Outcome::outcome, rules::specs::Events::block_turn, rules::specs::Events::output_after))]
 fn answer_block(token: Token, block: &[u8], random: &[u8], output: &mut [u8]) -> Outcome
     requires awake { is_awake token.power ≡ true }
     requires random_length { length random.now ≡ 32 }
@@ -149,105 +143,79 @@ fn answer_block(token: Token, block: &[u8], random: &[u8], output: &mut [u8]) ->
     ensures value { result ≡ outcome token (block_turn token.device token.power block.now random.now) random.now output.old }
     ensures output_after { output.new ≡ output_after (block_turn token.device token.power block.now random.now) random.now output.old }
 {
-    if wire::is_whole(block) {
-        let d = token.device;
-        let power = token.power;
-        let r = run_block(d, block, random);
-        let n = r.len;
-        let bytes = r.bytes;
-        let device = r.device;
-        let length = wire::put(output, &bytes[0..n]);
-        Outcome {
-            token: Token { device, power },
-            number: Number::Answered,
-            length,
-        }
-    } else {
-        let length = put_status(output, Status::Damaged);
-        Outcome {
-            token,
-            number: Number::Answered,
-            length,
-        }
+    if !wire::is_whole(block) {
+        return answered(token, put_status(output, Status::Damaged));
     }
+    let r = run_block(token.device, block, random);
+    let token = Token {
+        device: r.device,
+        ..token
+    };
+    answered(token, wire::put(output, &r.bytes[..r.len]))
 }
 
+// Random bytes and output one by one, as the definition `outcome` takes them.
 impl Token {
+    #[tactic(auto, unfolding(crate::specs::Outcome::outcome, rules::specs::Events::wake_turn, rules::specs::Events::output_after))]
     pub fn wake(self, random: &[u8], output: &mut [u8]) -> Outcome
         ensures value { result ≡ outcome self (wake_turn self.device self.power) random.now output.old }
         ensures output_after { output.new ≡ output_after (wake_turn self.device self.power) random.now output.old }
     {
-        if !buffers_fit(random.len(), output.len()) {
-            return refused(self, output.len());
+        if let Some(number) = refusal(random, output) {
+            return left(self, number);
         }
-        let power = self.power;
-        if is_awake(power) {
-            left(self, Number::NoAnswer)
-        } else {
-            let length = put_status(output, Status::Woken);
-            let device = self.device;
-            Outcome {
-                token: Token {
-                    device,
-                    power: Power::Awake,
-                },
-                number: Number::Answered,
-                length,
-            }
+        if self.power == Power::Awake {
+            return left(self, Number::NoAnswer);
         }
+        let token = Token {
+            power: Power::Awake,
+            ..self
+        };
+        answered(token, put_status(output, Status::Woken))
     }
 
+    #[tactic(auto, unfolding(crate::specs::Outcome::outcome, rules::specs::Events::idle_turn, rules::specs::Events::output_after))]
     pub fn idle(self, random: &[u8], output: &mut [u8]) -> Outcome
         ensures value { result ≡ outcome self (idle_turn self.device self.power) random.now output.old }
         ensures output_after { output.new ≡ output_after (idle_turn self.device self.power) random.now output.old }
     {
-        if !buffers_fit(random.len(), output.len()) {
-            return refused(self, output.len());
+        if let Some(number) = refusal(random, output) {
+            return left(self, number);
         }
-        let power = self.power;
-        if is_awake(power) {
-            let device = self.device;
-            left(
-                Token {
-                    device,
-                    power: Power::Idle,
-                },
-                Number::NoAnswer,
-            )
+        let power = if self.power == Power::Awake {
+            Power::Idle
         } else {
-            left(self, Number::NoAnswer)
-        }
+            self.power
+        };
+        left(Token { power, ..self }, Number::NoAnswer)
     }
 
     // Also the watchdog's expiry.
+    #[tactic(auto, unfolding(crate::specs::Outcome::outcome, rules::specs::Events::sleep_turn, rules::specs::Events::output_after))]
     pub fn sleep(self, random: &[u8], output: &mut [u8]) -> Outcome
         ensures value { result ≡ outcome self (sleep_turn self.device self.power) random.now output.old }
         ensures output_after { output.new ≡ output_after (sleep_turn self.device self.power) random.now output.old }
     {
-        if !buffers_fit(random.len(), output.len()) {
-            return refused(self, output.len());
+        if let Some(number) = refusal(random, output) {
+            return left(self, number);
         }
-        let mut device = self.device;
-        device.tempKey = replies::emptied_key();
-        let token = Token {
-            device,
-            power: Power::Asleep,
-        };
+        let mut token = self;
+        token.device.tempKey = replies::emptied_key();
+        token.power = Power::Asleep;
         left(token, Number::NoAnswer)
     }
 
+    #[tactic(auto, unfolding(crate::specs::Outcome::outcome, rules::specs::Events::block_turn, rules::specs::Events::output_after))]
     pub fn block(self, block: &[u8], random: &[u8], output: &mut [u8]) -> Outcome
         ensures value { result ≡ outcome self (block_turn self.device self.power block.now random.now) random.now output.old }
         ensures output_after { output.new ≡ output_after (block_turn self.device self.power block.now random.now) random.now output.old }
     {
-        if !buffers_fit(random.len(), output.len()) {
-            return refused(self, output.len());
+        if let Some(number) = refusal(random, output) {
+            return left(self, number);
         }
-        let power = self.power;
-        if is_awake(power) {
-            answer_block(self, block, random, output)
-        } else {
-            left(self, Number::NoAnswer)
+        if self.power != Power::Awake {
+            return left(self, Number::NoAnswer);
         }
+        answer_block(self, block, random, output)
     }
 }

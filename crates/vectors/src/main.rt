@@ -6,82 +6,47 @@ use std::io;
 
 // A digest in hexadecimal, and the end of the line.
 fn show(rt: &impl Print, d: [u8; 32]) -> io::Result<()> {
-    let mut i: usize = 0;
-    while i < 32 {
-        print!(rt; "{:02x}", d[i])?;
-        i += 1;
+    for b in d {
+        print!(rt; "{b:02x}")?;
     }
     println!(rt;)
 }
 
 // A message of which no two bytes near each other are equal.
 fn message(n: usize) -> [u8; 256] {
-    let mut m = [0u8; 256];
-    let mut i: usize = 0;
-    while i < 256 {
-        m[i] = ((i * 7 + n % 256 * 13) % 256) as u8;
-        i += 1;
-    }
-    m
+    std::array::from_fn(|i| ((i * 7 + n % 256 * 13) % 256) as u8)
 }
 
-// The digest of the message of n bytes, put in place k of a row of sixteen; nothing where n is over 200.
-fn with_digest(row: [u8; 512], k: usize, n: usize) -> [u8; 512] {
-    if 200 < n {
-        return row;
-    }
-    let mut r = row;
-    let m = message(n);
-    let d = digest::digest(&m[0..n]);
-    let mut i: usize = 0;
-    while i < 32 {
-        let at = (32 * (k % 16)) + i;
-        r[at] = d[i];
-        i += 1;
-    }
-    r
-}
-
-// The digest of the digests of the sixteen lengths from n on.
+// The digest of the digests of the sixteen lengths from n on, up to 200; zeros stand for those of the lengths beyond.
 fn sixteen(n: usize) -> [u8; 32] {
-    let mut row = [0u8; 512];
-    let mut k: usize = 0;
-    while k < 16 {
-        let next = with_digest(row, k, n % 256 + k);
-        row = next;
-        k += 1;
+    let mut row = [0; 512];
+    for (k, place) in row.chunks_exact_mut(32).enumerate() {
+        let len = n % 256 + k;
+        if len <= 200 {
+            place.copy_from_slice(&digest::digest(&message(len)[..len]));
+        }
     }
     digest::digest(&row)
 }
 
+// A million letters a. In a function of its own: with the array in `main` the check of `main` runs out of stack.
 fn letters() -> [u8; 1000000] {
     [b'a'; 1000000]
 }
 
-// The digest of a million letters a.
-fn million() -> [u8; 32] {
-    let m = letters();
-    digest::digest(&m)
-}
-
 fn main(rt: HostRuntime) -> io::Result<()> {
-    show(&rt, digest::digest(b""))?;
-    show(&rt, digest::digest(b"abc"))?;
-    show(
-        &rt,
-        digest::digest(b"abcdbcdecdefdefgefghfghighijhijkijkljklmklmnlmnomnopnopq"),
-    )?;
-    show(
-        &rt,
-        digest::digest(
-            b"abcdefghbcdefghicdefghijdefghijkefghijklfghijklmghijklmnhijklmnoijklmnopjklmnopqklmnopqrlmnopqrsmnopqrstnopqrstu",
-        ),
-    )?;
-    show(&rt, million())?;
-    let mut n: usize = 0;
-    while n <= 200 {
-        show(&rt, sixteen(n))?;
-        n += 16;
+    let messages: [&[u8]; 4] = [
+        b"",
+        b"abc",
+        b"abcdbcdecdefdefgefghfghighijhijkijkljklmklmnlmnomnopnopq",
+        b"abcdefghbcdefghicdefghijdefghijkefghijklfghijklmghijklmnhijklmnoijklmnopjklmnopqklmnopqrlmnopqrsmnopqrstnopqrstu",
+    ];
+    for m in messages {
+        show(&rt, digest::digest(m))?;
+    }
+    show(&rt, digest::digest(&letters()))?;
+    for k in 0..13 {
+        show(&rt, sixteen(16 * k))?;
     }
     Ok(())
 }

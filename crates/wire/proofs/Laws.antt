@@ -1,13 +1,12 @@
 -- Laws of the check value, of frames and of whole blocks, for this crate and those above.
-use Prim.Native.Nat.{ℕ, suc, ◌+◌, ◌≤◌, ◌<◌}
+use Prim.Native.Nat.{ℕ, suc, ◌+◌, ◌≤◌}
 use mathlib.Core.Path.{◌≡◌, refl, ap}
 use mathlib.Core.Bool.{true, and-eq-true_iff}
 use mathlib.Core.List.{List, [], ◌∷◌, ◌++◌}
-use native.Mathlib.Numerals.{add-one}
 use native.Mathlib.Omega.{arith}
 use borrow.Author.Tests.{le-leb, leb-true}
-use lib.ListN.{length, get_or, take, drop, length-append}
-use lib.Seq.{take-suc, take-append_seam}
+use lib.ListN.{length, take, drop, length-append}
+use lib.Seq.{take-append_seam}
 use Rattle.wire.specs.Wire.{bits_in, check_from, check_value, low_first, counted, frame, fits, put_length, put_output, whole}
 
 -- ---- the check value
@@ -17,11 +16,6 @@ pub check_append : (c : ℕ) (xs ys : List ℕ) → check_from c (xs ++ ys) ≡ 
 unfolding check_from
 check_append c [] ys = refl
 check_append c (x ∷ xs) ys = check_append (bits_in 8 c x) xs ys
-
--- one byte more of a slice
-pub check_more : (c : ℕ) (xs : List ℕ) (i : ℕ) → i < length xs → bits_in 8 (check_from c (take i xs)) (get_or xs i 0) ≡ check_from c (take (i + 1) xs)
-unfolding check_from
-check_more c xs i h = rw (add-one, take-suc xs i 0, check_append)
 
 -- ---- frames
 

@@ -1,13 +1,14 @@
--- The register held in reverse order: what bits do to it one by one, and that eight at once do the same.
-use Rattle.std.specs.Prelude.{if◌then◌else◌}
+-- The register held in reverse order: what bits do to it one by one, that eight at once do the same, and what the bytes of a list do.
+use Rattle.std.specs.Prelude.{if◌then◌else◌, fold}
 use Prim.Native.Nat.{ℕ, zero, suc, ◌*◌, ◌/◌, ◌%◌, ◌^◌, ◌<◌}
 use mathlib.Core.Path.{◌≡◌, refl, sym, ap, ◌∙◌}
+use mathlib.Core.List.{List, [], ◌∷◌}
 use native.Mathlib.Omega.{arith}
 use lib.Arith.{lt-one}
 use lib.Bits.{bit_xor, xor_shr, xor_mod, xor_lt, xor_zero_r}
 use lib.Count.{ones, ones_in}
 use lib.Dec.{eqb}
-use Rattle.wire.specs.Wire.{bit_in, bits_in}
+use Rattle.wire.specs.Wire.{bit_in, bits_in, check_from}
 use Rattle.wire.specs.Reversed.{reversed}
 use Rattle.wire.proofs.Cases.{if_either}
 use Rattle.wire.proofs.Xor.{on_bit, sorted, Additive, times_power, low_sixteen, bit_times, odd_additive, agree}
@@ -98,3 +99,12 @@ byte_enters q x hq hx =
 
 pub byte_left : (q x : ℕ) → reversed 16 (reversed 16 (bits_in 8 (reversed 16 q) x)) ≡ bits_in 8 (reversed 16 q) x
 byte_left q x = twice (bits_in 8 (reversed 16 q) x) (bits_in_lt 8 (reversed 16 q) x (reversed_lt 16 q))
+
+-- and so do the bytes of a list, one after another
+abbrev pub enters : ℕ → ℕ → ℕ
+enters q x = reversed 16 (bits_in 8 (reversed 16 q) x)
+
+pub all_enter : (q : ℕ) (xs : List ℕ) → reversed 16 (fold enters q xs) ≡ check_from (reversed 16 q) xs
+unfolding check_from
+all_enter q [] = refl
+all_enter q (x ∷ xs) = all_enter (enters q x) xs ∙ ap (λ (c : ℕ). check_from c xs) (byte_left q x)

@@ -1,12 +1,14 @@
 -- Sixteen bits in reverse order. Reversal is additive over XOR, so each law on it holds once it holds at the sixteen single bits, which the checker computes.
-use Prim.Native.Nat.{ℕ, zero, suc, ◌*◌, ◌/◌, ◌%◌, ◌^◌, ◌<◌}
-use mathlib.Core.Path.{◌≡◌, refl, sym}
-use native.Mathlib.Nat.{mod-lt, zero-lt-suc}
+use Prim.Native.Nat.{ℕ, zero, suc, ◌+◌, ◌*◌, ◌/◌, ◌%◌, ◌^◌, ◌<◌}
+use mathlib.Core.Path.{◌≡◌, refl, sym, ◌∙◌}
+use native.Mathlib.Nat.{mod-lt, zero-lt-suc, zero-add, pow-suc}
 use native.Mathlib.Omega.{arith}
 use lib.Arith.{digits_lt}
-use lib.Bits.{bit_xor, bit_and, xor_shr, xor_mod, xor_block}
+use lib.Bits.{xor_shr, xor_mod, xor_block}
+use Rattle.std.specs.Int.{reverse_bits_onto, reverse_bits}
+use Rattle.std.proofs.Common.{w16}
 use Rattle.wire.specs.Reversed.{reversed}
-use Rattle.wire.proofs.Xor.{and_xor, sorted, Additive, times_power, low_sixteen, agree}
+use Rattle.wire.proofs.Xor.{Additive, times_power, low_sixteen, agree}
 
 pub reversed_lt : (n x : ℕ) → reversed n x < 2 ^ n
 unfolding reversed
@@ -22,21 +24,18 @@ reversed_additive (suc n) a b =
     rw (xor_shr a b 1, xor_mod a b 1, reversed_additive n (a / 2) (b / 2))
     (sym (xor_block n (a % 2) (b % 2) u v (reversed_lt n (a / 2)) (reversed_lt n (b / 2))))
 
--- ---- by swaps, as `reverse` computes it
+-- ---- by the library: `reverse_bits` puts each bit below those that it has
 
--- neighbours of k bits change places; the mask m has the lower of each two
-unfoldable pub swap : ℕ → ℕ → ℕ → ℕ
-swap k m x = bit_xor (bit_and (x / 2 ^ k) m) (bit_and x m * 2 ^ k % 2 ^ 16)
+moved : (a b p r : ℕ) → (a * 2 + b) * p + r ≡ a * (p * 2) + (b * p + r)
+moved a b p r = grind arith
 
-swap_additive : (k m : ℕ) → Additive (swap k m)
-unfolding swap
-swap_additive k m a b = simp (xor_shr, and_xor, times_power k, low_sixteen, sorted)
+onto : (n x a : ℕ) → reverse_bits_onto n x a ≡ a * 2 ^ n + reversed n x
+unfolding reverse_bits_onto reversed
+onto zero x a = omega arith
+onto (suc n) x a = onto n (x / 2) (a * 2 + x % 2) ∙ rw (pow-suc 2 n) (moved a (x % 2) (2 ^ n) (reversed n (x / 2)))
 
-pub swapped : (x : ℕ) → x < 2 ^ 16 → swap 1 0x5555 (swap 2 0x3333 (swap 4 0x0F0F (swap 8 0x00FF x))) ≡ reversed 16 x
-unfolding swap reversed
-swapped =
-    agree (λ x. swap 1 0x5555 (swap 2 0x3333 (swap 4 0x0F0F (swap 8 0x00FF x)))) (reversed 16) (λ a b. simp swap_additive)
-    (reversed_additive 16) 16 refl
+pub by_library : (x : ℕ) → reverse_bits w16 x ≡ reversed 16 x
+by_library x = onto 16 x 0 ∙ zero-add (reversed 16 x)
 
 -- ---- reversal undoes itself, turns up into down, and the top bit into the lowest
 

@@ -46,6 +46,17 @@ put_length out p = if fits out p then length p + 3 else 0
 unfoldable pub put_output : List ℕ → List ℕ → List ℕ
 put_output out p = if fits out p then frame p ++ drop (length p + 3) out else out
 
+-- The frame of any bytes p whose count is one byte: they are at most 252, and the output has room for the frame.
+unfoldable pub frame_fits : List ℕ → List ℕ → Bool
+frame_fits out p = leb (length p) 252 && leb (length p + 3) (length out)
+
+-- Where they fit, their frame is put at the front of the output and its length given; else nothing is put, and 0 given.
+unfoldable pub put_frame_length : List ℕ → List ℕ → ℕ
+put_frame_length out p = if frame_fits out p then length p + 3 else 0
+
+unfoldable pub put_frame_output : List ℕ → List ℕ → List ℕ
+put_frame_output out p = if frame_fits out p then frame p ++ drop (length p + 3) out else out
+
 -- ---- Block: count, opcode, Param1, Param2 (low byte first), data, check value (low byte first).
 
 -- The number at places i and i + 1, low byte first.

@@ -17,8 +17,10 @@ use Rattle.rules.specs.Address.{zone, size, position}
 use Rattle.rules.specs.Write.{has_mac, slot_encrypted, config_write_free, encrypted, locked_write_free, unlocked_write_free, write_free, and_row}
 use Rattle.rules.proofs.Tests.{and_left, and_right, iff_same}
 use Rattle.rules.proofs.Rows.{take_zip}
+use Rattle.rules.proofs.Shapes.{write_fits, size_clear, size_mac}
 use Rattle.rows.specs.Row.{row}
-use Rattle.rows.proofs.Row.{take_row}
+use Rattle.rows.proofs.Row.{take_row, row_whole}
+use Rattle.address.proofs.Within.{size_small, otp_within}
 
 -- ---- MAC present exactly when encrypted
 
@@ -49,9 +51,15 @@ mac_encrypted d f input h =
     (λ k. iff_same (has_mac input) (encrypted d.config f) (and_right locked same (and_left (locked && same) rest k)))
     h
 
+-- what shape and conditions say of the value and of the MAC
+pub ruleset shaped = (write_fits, size_clear, size_mac, mac_encrypted, row_whole)
+
 -- ---- old AND new: what stands in the first bytes of two rows
 pub and_taken : (old value : List ℕ) (at n : ℕ) → n ≤ 32 → at + n ≤ length old → length value ≡ n
     → take n (and_row (row old at n) (row value 0 n)) ≡ and_row (take n (drop at old)) value
 and_taken old value at n h k e =
     let f : take n (row value 0 n) ≡ value = take_row value 0 n h (omega arith) ∙ take_all n value (omega arith) in
     rw (take_zip bit_and n (row old at n) (row value 0 n), take_row old at n h k, f)
+
+-- that OTP has these bytes, and that they make no more than a row
+pub ruleset stored = (otp_within, size_small, and_taken)

@@ -8,7 +8,8 @@ use Rattle.bench.proofs.step.Goals as goal
 pub returns-in-Image : goal.returns-in-Image
 returns-in-Image c =
     let x = c.args in
-    image_given x.token x.input.now x.at x.output.now c.requires.output_length c.in-Image.is c.image_at.ensures c.image.ensures
+    image_given x.token x.input.now x.at x.output.now c.requires.output_length c.in-Image.is
+    c.image_at.ensures c.fresh.ensures c.silent.ensures
 
 pub returns-in-Wake : goal.returns-in-Wake
 returns-in-Wake c =
@@ -28,9 +29,10 @@ returns-in-Sleep c =
 pub returns-in-Block : goal.returns-in-Block
 returns-in-Block c =
     let x = c.args in
-    block_given x.token x.input.now x.at x.output.now c.requires.output_length _ c.requires.what_is c.in-Block.is c.block_at.ensures c.random_at.ensures c.block.ensures
+    block_given x.token x.input.now x.at x.output.now c.requires.output_length _ c.requires.what_is c.in-Block.is
+    c.block_at.ensures c.random_at.ensures c.block.ensures
 
 pub returns-in-Bad : goal.returns-in-Bad
 returns-in-Bad c =
     let x = c.args in
-    bad_given x.token x.input.now x.at x.output.now c.requires.output_length c.in-Bad.is refl
+    bad_given x.token x.input.now x.at x.output.now c.requires.output_length c.in-Bad.is c.silent-in-Bad.ensures

@@ -1,16 +1,16 @@
--- Each field stands behind those before it; the two rows are whole.
-use mathlib.Core.Path.{◌≡◌}
-use native.Mathlib.Omega.{arith}
-use lib.ListN.{length}
-use lib.Seq.{take_all}
-use Rattle.rules.specs.Messages.{mac_message}
-use borrow.Author.Rules.{rules}
+-- No field is longer than was asked for.
+use Rattle.std.proofs.Common.{arith}
+use Rattle.messages.proofs.Fields.{part_within}
 use Rattle.messages.proofs.mac_digest.Goals as goal
 
-pub returns : goal.returns
-unfolding mac_message
-returns c =
-    let a = c.args in
-    let l : length a.first ≡ 32 = search (rules, c.well_formed) in
-    let k : length a.second ≡ 32 = search (rules, c.well_formed) in
-    rw (c.digest.ensures, c.serial_fields-m9.ensures, c.otp_fields-m5.ensures, c.add-m3.ensures, c.header_of-h.ensures, c.add-m2.ensures, c.add-m1.ensures, take_all 32 a.first (omega arith), take_all 32 a.second (omega arith))
+pub add-requires-4 : goal.add-requires-4
+add-requires-4 c = omega (arith, part_within)
+
+pub add_if-requires-3 : goal.add_if-requires-3
+add_if-requires-3 c = omega (arith, part_within)
+
+pub add-requires-5 : goal.add-requires-5
+add-requires-5 c = omega (arith, part_within)
+
+pub add_if-requires-4 : goal.add_if-requires-4
+add_if-requires-4 c = omega (arith, part_within)

@@ -1,15 +1,7 @@
--- Each field stands behind those before it; the random is whole.
-use mathlib.Core.Path.{◌≡◌}
-use native.Mathlib.Omega.{arith}
-use lib.ListN.{length}
-use lib.Seq.{take_all}
-use Rattle.rules.specs.Messages.{nonce_message}
-use borrow.Author.Rules.{rules}
+-- No field is longer than was asked for.
+use Rattle.std.proofs.Common.{arith}
+use Rattle.messages.proofs.Fields.{part_within}
 use Rattle.messages.proofs.nonce_digest.Goals as goal
 
-pub returns : goal.returns
-unfolding nonce_message
-returns c =
-    let a = c.args in
-    let l : length a.random ≡ 32 = search (rules, c.well_formed) in
-    rw (c.digest.ensures, c.add-m3.ensures, c.add-m2.ensures, c.add-m1.ensures, take_all 32 a.random (omega arith))
+pub add-requires-3 : goal.add-requires-3
+add-requires-3 c = omega (arith, part_within)

@@ -1,26 +1,16 @@
--- At each turn the first that is not zero among the bytes left is the first of all.
-use Prim.Native.Nat.{◌-◌}
-use mathlib.Core.Path.{◌≡◌, refl}
-use native.Mathlib.Omega.{arith}
-use borrow.Author.Tests.{eq-eqb, ne_eqb}
-use Rattle.rules.specs.Uses.{first_nonzero}
-use Rattle.rules.proofs.Uses.{first_step}
-use borrow.Author.Rules.{rules}
+-- The first of the bytes before LastKeyUse's last that is not zero.
+use mathlib.Core.Bool.{not}
+use lib.ListN.{take, drop}
+use lib.Dec.{eqb}
+use Rattle.std.proofs.Common.{rules, tests}
+use Rattle.std.proofs.lemmas.Iterator.{YieldsList-from_slice}
+use Rattle.std.proofs.lemmas.Iterator.Search.{position_from_yields_List}
+use Rattle.uses.proofs.Bytes.{first_placed}
 use Rattle.uses.proofs.first_nonzero.Goals as goal
 
-pub loop-i-init : goal.loop-i-init
-loop-i-init c = (search rules, (search rules, refl))
-
-pub returns-then-c-i-ne0 : goal.returns-then-c-i-ne0
-returns-then-c-i-ne0 c =
-    rw (first_step c.args.c c.loop-i.i 83 c.loop-i-test.true, ne_eqb _ _ c.if-c-i-ne0.true) at c.loop-i.invariant.1.1
-
-pub loop-i-preserved : goal.loop-i-preserved
-loop-i-preserved c =
-    (omega arith, (omega arith, rw (first_step c.args.c c.loop-i.i 83 c.loop-i-test.true, eq-eqb _ _ c.if-c-i-ne0.false) at c.loop-i.invariant.1.1))
-
 pub returns : goal.returns
-unfolding first_nonzero
 returns c =
-    let e : 83 - c.loop-i.i ≡ 0 = omega arith in
-    rw e at c.loop-i.invariant.1.1
+    let l = c.args.c in
+    let e = position_from_yields_List (λ x. not (eqb x 0)) _ _ c.position.result c.position.ensures.ran
+    (YieldsList-from_slice (take 15 (drop 68 l)) cc) (λ x b q k. search (rules, tests)) in
+    rw (c.unwrap_or.ensures, e) (first_placed l 68 15 (search rules))

@@ -4,4 +4,4 @@ use Rattle.wire.proofs.Register.{byte_enters}
 use Rattle.wire.proofs.byte_in.Goals as goal
 
 pub returns : goal.returns
-returns c = byte_enters c.args.q c.args.x (search rules) (search rules)
+returns c = rw c.from.ensures (byte_enters c.args.q c.args.x (search rules) (search rules))

@@ -1,9 +1,0 @@
--- Bit 7 decides.
-use borrow.Author.Tests.{eq-eqb, ne_eqb}
-use Rattle.address.proofs.size_of.Goals as goal
-
-pub returns-then-f-eq1 : goal.returns-then-f-eq1
-returns-then-f-eq1 c = rw (eq-eqb _ _ c.if-f-eq1.true)
-
-pub returns-else-f-eq1 : goal.returns-else-f-eq1
-returns-else-f-eq1 c = rw (ne_eqb _ _ c.if-f-eq1.false)

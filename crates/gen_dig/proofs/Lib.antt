@@ -1,2 +1,0 @@
--- Laws of the value and of what was sent, for the proofs to cite.
-pub mod Sent

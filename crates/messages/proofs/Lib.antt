@@ -1,0 +1,2 @@
+-- What keeps the fields of a message within its 96 bytes.
+pub mod Fields

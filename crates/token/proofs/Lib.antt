@@ -1,3 +1,0 @@
--- Laws of the token's events and fresh state.
-pub mod Ends
-pub mod Filled

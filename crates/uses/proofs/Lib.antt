@@ -1,0 +1,2 @@
+-- Laws of uses.
+pub mod Bytes

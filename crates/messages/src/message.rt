@@ -9,7 +9,7 @@ use std::marker::Model;
 // An array and a length, since memory is fixed and there is no heap; clauses see the first `len` of the bytes.
 // Not arrayvec's `ArrayVec<u8, 96>`: its `try_extend_from_slice` refuses at run time, where `add` is proved to fit.
 #[derive(Drop)]
-pub struct Message {
+pub(crate) struct Message {
     bytes: [u8; 96],
     len: usize,
 }
@@ -23,7 +23,7 @@ impl Model for Message {
 }
 
 impl Message {
-    pub fn new() -> Self
+    pub(crate) fn new() -> Self
         ensures fields { result ≡ [] }
         ensures long { length result ≡ 0 }
     {
@@ -34,7 +34,7 @@ impl Message {
     }
 
     // A field behind what is there.
-    pub fn add(&mut self, s: &[u8])
+    pub(crate) fn add(&mut self, s: &[u8])
         requires { length self.old + length s.now ≤ 96 }
         ensures fields { self.new ≡ self.old ++ s.now }
         ensures long { length self.new ≡ length self.old + length s.now }
@@ -45,7 +45,7 @@ impl Message {
     }
 
     // So many zeros.
-    pub fn add_zeros(&mut self, n: usize)
+    pub(crate) fn add_zeros(&mut self, n: usize)
         requires { length self.old + n ≤ 96 }
         ensures fields { self.new ≡ self.old ++ zeros n }
         ensures long { length self.new ≡ length self.old + n }
@@ -56,7 +56,7 @@ impl Message {
     }
 
     // The field where it is included, as many zeros where it is not.
-    pub fn add_if(&mut self, on: bool, s: &[u8])
+    pub(crate) fn add_if(&mut self, on: bool, s: &[u8])
         requires { length self.old + length s.now ≤ 96 }
         ensures fields { self.new ≡ self.old ++ (if on then s.now else zeros (length s.now)) }
         ensures long { length self.new ≡ length self.old + length s.now }
@@ -68,7 +68,7 @@ impl Message {
         }
     }
 
-    pub fn digest(&self) -> [u8; 32]
+    pub(crate) fn digest(&self) -> [u8; 32]
         ensures { result ≡ sha256 self.now }
     {
         digest::digest(&self.bytes[..self.len])

@@ -17,5 +17,5 @@ returns c =
     let key : length d.tempKey.bytes ≡ 32 = search (rules, c.well_formed) in
     let six : length c.last_six.result ≡ 6 = search rules in
     let ends = laid c.args.s.now d.config d.otp d.«data» d.tempKey.bytes c.last_six.result s config otp «data» key six in
-    rw (c.copy_from_slice.ensures.after, c.copy_from_slice-2.ensures.after, c.copy_from_slice-3.ensures.after, c.copy_from_slice-4.ensures.after)
-    (rw (c.copy_from_slice-5.ensures.after, ← c.last_six.ensures) ends)
+    rw (c.copy_from_slice.ensures.after, c.copy_from_slice-2.ensures.after, c.copy_from_slice-3.ensures.after)
+    (rw (c.copy_from_slice-4.ensures.after, c.copy_from_slice-5.ensures.after, ← c.last_six.ensures) ends)

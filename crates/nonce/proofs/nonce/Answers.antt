@@ -21,4 +21,6 @@ returns c =
     let shape = sym c.nonce_shape.ensures ∙ c.if-not-nonce_shape.false in
     let sent = front_sent a.input.now 20 (nonce_20 a.f a.input.now shape c.if-f-eq3.false) (omega arith) in
     let l : length c.used_random-answer.result ≡ 32 = search rules in
-    rw (shape, ne_eqb _ _ c.if-f-eq3.false, c.taken_key-2.ensures, c.nonce_digest-digest.ensures, ← c.used_random-answer.ensures, c.row_of-row.ensures, sent, l, append-nil)
+    let digest = c.nonce_digest-digest.ensures in
+    let answer = c.used_random-answer.ensures in
+    rw (shape, ne_eqb _ _ c.if-f-eq3.false, c.taken_key-2.ensures, digest, ← answer, c.row_of-row.ensures, sent, l, append-nil)

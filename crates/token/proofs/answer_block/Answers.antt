@@ -27,4 +27,5 @@ returns c =
     let output35 = le-ltb _ _ c.requires.output_fits in
     let random32 = eq-eqb _ _ c.requires.random_length in
     rw (c.answered-2.ensures, c.put.ensures.value, c.put.ensures.out_after, c.run_block-r.ensures, take-append_seam answer, put.0, put.1)
-    (rw (c.requires.awake, whole, output35, random32, number_frame answer, length_frame answer) (record { value = refl; output_after = refl }))
+    (rw (c.requires.awake, whole, output35, random32, number_frame answer, length_frame answer)
+    (record { value = refl; output_after = refl }))

@@ -6,4 +6,5 @@ use Rattle.write.proofs.and_row.Goals as goal
 
 pub returns : goal.returns
 returns c =
-    made_zip _ bit_and _ c.args.a c.args.b (λ i y t called. search rules) c.from_fn.result (search rules) (search rules) c.from_fn.ensures.items
+    let made = c.from_fn in
+    made_zip _ bit_and _ c.args.a c.args.b (λ i y t called. search rules) made.result (search rules) (search rules) made.ensures.items

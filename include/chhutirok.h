@@ -37,7 +37,7 @@
  * What is not promised. Proved is what a call gives and what it leaves in the caller's bytes, and no more than that:
  * - copies of keys stay on the stack, and perhaps in registers, after a call, a sleep too; to be rid of them, run the calls on a stack of your
  *   own and wipe it;
- * - timing: nothing is claimed of the time that a call takes; rows are compared up to the first byte that differs;
+ * - timing: nothing is claimed of the time that a call takes; a comparison of rows ends early where one of their first four bytes differs;
  * - the compiler: Rattle's, LLVM behind it, and the one that compiles this header are believed and not proved.
  */
 #ifndef CHHUTIROK_H

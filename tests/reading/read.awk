@@ -149,7 +149,10 @@ END {
         else cited[import_from[i], import_name[i]] = 1
     }
     n = split(also, parts, " ")
-    for (i = 2; i <= n; i++) cited[parts[1], parts[i]] = 1
+    for (i = 1; i <= n; i++) {
+        if (parts[i] ~ /\//) named_file = parts[i]
+        else cited[named_file, parts[i]] = 1
+    }
     for (i = 1; i <= laws; i++) {
         if (law_file[i] !~ ends && !((law_file[i], law_name[i]) in cited) && !((law_file[i], shown(law_name[i])) in cited)) fail(law_file[i], law_line[i], "nothing cites " law_name[i])
     }

@@ -1,32 +1,40 @@
--- A block is the frame of its header and data, which `put_block` gathers in a buffer of 81 bytes first.
-use Rattle.std.specs.Prelude.{length, take}
-use Prim.Native.Nat.{ℕ, ◌+◌, ◌-◌, ◌/◌, ◌%◌, ◌≤◌, ◌<◌}
+-- What the stores of `put_fitting` leave in the buffer: the count, then header and data, then their check value.
+use Prim.Native.Nat.{ℕ, suc, ◌+◌, ◌-◌, ◌/◌, ◌%◌, ◌≤◌}
 use mathlib.Core.Path.{◌≡◌}
 use mathlib.Core.List.{List, [], ◌∷◌, ◌++◌}
 use native.Mathlib.Omega.{arith}
-use borrow.Author.Tests.{le-leb}
 use borrow.Rule.Slice.PartMut.{put_mid}
-use lib.ListN.{replicate}
-use Rattle.std.proofs.lemmas.Slice.{take-put_mid}
-use Rattle.wire.specs.Wire.{low_first, frame_fits, put_frame_output}
-use Rattle.blocks.specs.Blocks.{command_block, fits, buffer_after}
+use lib.ListN.{length, take, drop, set}
+use Rattle.wire.specs.Wire.{low_first, check_from}
+use Rattle.wire.proofs.Frame.{begun, framed}
+use Rattle.blocks.specs.Blocks.{command_block}
 
-framed : (opcode param1 param2 : ℕ) (input o : List ℕ) → length input ≤ 77
-    → buffer_after opcode param1 param2 input o ≡ put_frame_output o (opcode ∷ param1 ∷ low_first param2 ++ input)
-unfolding command_block fits buffer_after frame_fits put_frame_output
-framed opcode param1 param2 input o h =
-    let n : ℕ = length (opcode ∷ param1 ∷ low_first param2 ++ input) in
-    let whole : n + 3 ≡ length input + 7 = omega arith in
-    rw (le-leb n 252 (omega arith), le-leb (length input) 77 h, whole)
+-- the data, and then count and header before it, are what `framed` speaks of
+joined : (o input : List ℕ) (k a b c d : ℕ) → 5 ≤ length o → k ≡ length (a ∷ b ∷ c ∷ d ∷ input) + 3
+    → put_mid 1 4 (set (put_mid 5 (length input) o input) 0 k) (a ∷ b ∷ c ∷ d ∷ []) ≡ begun o (a ∷ b ∷ c ∷ d ∷ input)
+joined (x ∷ x₁ ∷ x₂ ∷ x₃ ∷ x₄ ∷ o) input k a b c d h e =
+    let m : ℕ = length input in
+    let i : suc (suc (suc (suc m))) + 1 - 1 ≡ suc (suc (suc (suc m))) = omega arith in
+    rw (e, i)
+joined [] input k a b c d h e = absurd (omega arith)
+joined (x ∷ []) input k a b c d h e = absurd (omega arith)
+joined (x ∷ x₁ ∷ []) input k a b c d h e = absurd (omega arith)
+joined (x ∷ x₁ ∷ x₂ ∷ []) input k a b c d h e = absurd (omega arith)
+joined (x ∷ x₁ ∷ x₂ ∷ x₃ ∷ []) input k a b c d h e = absurd (omega arith)
 
--- the data copied after the header, and the zeros after both left out
-pub gathered : (opcode param1 param2 : ℕ) (input o : List ℕ) → param2 < 0x10000 → length input ≤ 77
-    → buffer_after opcode param1 param2 input o
-    ≡ put_frame_output o (take (length input + 4) (put_mid 4 (length input + 4 - 4)
-    ((opcode ∷ param1 ∷ param2 % 256 ∷ param2 / 256 % 256 ∷ []) ++ replicate 77 0) input))
-gathered opcode param1 param2 input o k h =
-    let n : ℕ = length input in
-    let high : param2 / 256 % 256 ≡ param2 / 256 = omega arith in
-    let header : List ℕ = (opcode ∷ param1 ∷ low_first param2) ++ replicate 77 0 in
-    let all = take-put_mid 4 (n + 4 - 4) header input (n + 4) (omega arith) (omega arith) in
-    rw (high, all, framed opcode param1 param2 input o h)
+module _ (opcode param1 param2 : ℕ) (input o : List ℕ) where
+  -- the buffer before the check value is stored
+  abbrev pub unchecked : List ℕ
+  unchecked =
+      put_mid 1 4 (set (put_mid 5 (length input) o input) 0 (length input + 7)) (opcode ∷ param1 ∷ low_first param2)
+
+  pub stored : {c : ℕ} → length input + 7 ≤ length o → c ≡ check_from 0 (take (length input + 5) unchecked)
+      → put_mid (length input + 5) (length input + 7 - (length input + 5)) unchecked (low_first c)
+      ≡ command_block opcode param1 param2 input ++ drop (length input + 7) o
+  unfolding command_block
+  stored {c} h e =
+      let p : List ℕ = opcode ∷ param1 ∷ low_first param2 ++ input in
+      let i : length input + 5 ≡ length p + 1 = omega arith in
+      let k : length input + 7 ≡ length p + 3 = omega arith in
+      let all = joined o input (length input + 7) opcode param1 (param2 % 256) (param2 / 256) (omega arith) k in
+      rw (all, i, k) (framed o p c (omega arith) (rw (all, i) at e))

@@ -30,7 +30,7 @@ fn used_random(c: [u8; 88], supplied: [u8; 32]) -> [u8; 32]
 fn nonce_shape(f: Fields, input: &[u8]) -> bool
     ensures { result ≡ nonce_shape f input.now }
 {
-    f.param2 == 0 && matches!((f.param1, input.len()), (0 | 1, 20) | (3, 32))
+    matches!((f.param1, input.len()), (0 | 1, 20) | (3, 32)) && f.param2 == 0
 }
 
 #[tactic(auto, unfolding(rules::specs::Nonce::nonce))]

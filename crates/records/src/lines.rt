@@ -62,7 +62,7 @@ fn put_event(room: &mut [u8], name: &[u8], number: Number, answer: &[u8]) -> usi
     ensures value { result ≡ put_length room.old 0 (event_line name.now number answer.now) }
     ensures out_after { room.new ≡ put_output room.old 0 (event_line name.now number answer.now) }
 {
-    if number == Number::Answered {
+    if matches!(number, Number::Answered) {
         put_answer(room, name, answer)
     } else {
         put_text(room, name, b"none\n")

@@ -164,7 +164,7 @@ impl Token {
         if let Some(number) = refusal(random, output) {
             return left(self, number);
         }
-        if self.power == Power::Awake {
+        if matches!(self.power, Power::Awake) {
             return left(self, Number::NoAnswer);
         }
         let token = Token {
@@ -182,7 +182,7 @@ impl Token {
         if let Some(number) = refusal(random, output) {
             return left(self, number);
         }
-        let power = if self.power == Power::Awake {
+        let power = if matches!(self.power, Power::Awake) {
             Power::Idle
         } else {
             self.power
@@ -213,7 +213,7 @@ impl Token {
         if let Some(number) = refusal(random, output) {
             return left(self, number);
         }
-        if self.power != Power::Awake {
+        if !matches!(self.power, Power::Awake) {
             return left(self, Number::NoAnswer);
         }
         answer_block(self, block, random, output)

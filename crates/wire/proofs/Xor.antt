@@ -8,7 +8,7 @@ use lib.Arith.{bin_ind, lt-one}
 use lib.Pow.{split, pow_pos}
 use lib.Dec.{eqb}
 use borrow.Author.Tests.{eqb-true}
-use lib.Bits.{bit_xor, xor_shr, xor_mod, xor_block, xor_zero_r, xor_comm, xor_self, xor_shifted}
+use lib.Bits.{bit_xor, bit_and, xor_shr, xor_mod, xor_block, xor_zero_r, xor_comm, xor_self, xor_shifted, and_shr, and_mod}
 use lib.Count.{ones, ones_step}
 
 -- ---- what holds of 0 and 1 holds of a bit, and of a number's lowest bit
@@ -21,7 +21,7 @@ on_bit P p q (suc (suc x)) h = absurd (not-suc-le-zero (le_of_suc-le-suc (le_of_
 low : (P : ℕ → Type 0) → P 0 → P 1 → (x : ℕ) → P (x % 2)
 low P p q x = on_bit P p q (x % 2) (omega arith)
 
--- ---- XOR is associative: bit by bit
+-- ---- XOR is associative, and AND goes over it: bit by bit
 
 half : (a b : ℕ) → bit_xor a b / 2 ≡ bit_xor (a / 2) (b / 2)
 half a b = xor_shr a b 1
@@ -42,6 +42,24 @@ xor_assoc =
         low (λ (x : ℕ). bit_xor (bit_xor x (b % 2)) (c % 2) ≡ bit_xor x (bit_xor (b % 2) (c % 2))) refl
         (low (λ (y : ℕ). bit_xor (bit_xor 1 y) (c % 2) ≡ bit_xor 1 (bit_xor y (c % 2))) refl
         (low (λ (z : ℕ). bit_xor (bit_xor 1 1) z ≡ bit_xor 1 (bit_xor 1 z)) refl refl c) b) a
+
+pub and_xor : (a b m : ℕ) → bit_and (bit_xor a b) m ≡ bit_xor (bit_and a m) (bit_and b m)
+and_xor =
+    bin_ind (λ (n : ℕ). (b m : ℕ) → bit_and (bit_xor n b) m ≡ bit_xor (bit_and n m) (bit_and b m)) (λ b m. refl)
+    (λ n ih b m. by_halves (simp (half, and_half) (ih (b / 2) (m / 2))) (simp (lowest, and_lowest) (bits n b m)))
+  where
+    and_half : (a b : ℕ) → bit_and a b / 2 ≡ bit_and (a / 2) (b / 2)
+    and_half a b = and_shr a b 1
+
+    and_lowest : (a b : ℕ) → bit_and a b % 2 ≡ bit_and (a % 2) (b % 2)
+    and_lowest a b = and_mod a b 1
+
+    bits : (a b m : ℕ) → bit_and (bit_xor (a % 2) (b % 2)) (m % 2) ≡ bit_xor (bit_and (a % 2) (m % 2)) (bit_and (b % 2) (m % 2))
+    bits a b m =
+        low (λ (x : ℕ). bit_and (bit_xor x (b % 2)) (m % 2) ≡ bit_xor (bit_and x (m % 2)) (bit_and (b % 2) (m % 2))) refl
+        (low (λ (y : ℕ). bit_and (bit_xor 1 y) (m % 2) ≡ bit_xor (bit_and 1 (m % 2)) (bit_and y (m % 2)))
+        (low (λ (z : ℕ). bit_and (bit_xor 1 0) z ≡ bit_xor (bit_and 1 z) (bit_and 0 z)) refl refl m)
+        (low (λ (z : ℕ). bit_and (bit_xor 1 1) z ≡ bit_xor (bit_and 1 z) (bit_and 1 z)) refl refl m) b) a
 
 pub xor_left_comm : (a b c : ℕ) → bit_xor a (bit_xor b c) ≡ bit_xor b (bit_xor a c)
 xor_left_comm a b c = rw (← xor_assoc a b c, xor_comm a b) (xor_assoc b a c)

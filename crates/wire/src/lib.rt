@@ -1,4 +1,4 @@
-// The check value, the frame of an answer or a block, and whether a block is whole.
+// The check value, the frame of an answer, and whether a block is whole.
 #![tactic(auto)]
 
 ghost use Rattle.std.specs.Prelude.{◌≡◌};
@@ -25,8 +25,7 @@ pub fn check_value(start: u16, s: &[u8]) -> u16
 }
 
 // The frame of up to 252 bytes at the front of an output that has room for it; its length. Else nothing, and 0: a count of the
-// bytes put, and no Option of it, since `put` and blocks' `put_block` promise such counts (`put_length`, `block_length`) and hand
-// this one on.
+// bytes put, and no Option of it, since `put` promises such a count (`put_length`) and hands this one on.
 #[tactic(auto, unfolding(crate::specs::Wire::put_frame_length, crate::specs::Wire::put_frame_output, crate::specs::Wire::frame_fits))]
 pub fn put_frame(out: &mut [u8], p: &[u8]) -> usize
     ensures value { result ≡ put_frame_length out.old p.now }
